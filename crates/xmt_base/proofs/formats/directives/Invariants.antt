@@ -1,0 +1,6 @@
+use Rattle.std.proofs.Common.{◌≡◌, ◌+◌, ◌≤◌, drop, false}
+use Rattle.xmt_base.specs.Format.{directives}
+use Rattle.xmt_base.proofs.formats.directives.Given as goal
+
+abbrev pub invariant-loop-item : goal.invariant-loop-item
+invariant-loop-item l = record { few : l.count ≤ l.item-index; same : l.count + directives l.behind (drop l.item-index l.text) ≡ directives false l.text }

@@ -1,0 +1,10 @@
+pub mod Action
+pub mod FileMaps
+pub mod Format
+pub mod Host
+pub mod HostCalls
+pub mod MemoryHost
+pub mod Name
+pub mod Operators
+pub mod Picker
+pub mod Text
