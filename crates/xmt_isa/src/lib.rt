@@ -1,0 +1,32 @@
+//! The instruction set and images: what a compiled program is.
+#![tactic(auto)]
+
+mod image;
+mod operation;
+
+pub use image::{FunctionEntry, Image, Instr};
+pub use operation::{Location, Operation};
+
+#[cfg(test)]
+mod tests {
+    use super::*;
+    use xmt_base::BinOp;
+
+    #[test]
+    fn instructions_have_the_numbers_of_the_table(rt: HostRuntime) {
+        let rows = [
+            ((1, 8, 0, 0, 5), Operation::Set(8, 5)),
+            ((11, 8, 9, 10, 0), Operation::Binary(BinOp::BitOr, 8, 9, 10)),
+            ((22, 0, 9, 0, 7), Operation::IfNot(9, 7)),
+            ((30, 0, 3, 0, 4), Operation::Check(3, 4)),
+            ((34, 3, 4, 0, 6), Operation::Load(3, Location::Indexed(4, 6))),
+            ((42, 8, 0, 0, 1), Operation::Add(8, Location::Register(1))),
+            ((44, 3, 4, 0, 256), Operation::Spawn(3, 4, 256)),
+        ];
+        for ((op, a, b, c, imm), operation) in rows {
+            let instr = Instr { op, a, b, c, imm };
+            assert_eq!(rt; instr.operation(), Some(operation));
+        }
+        assert_eq!(rt; Operation::Store(3, Location::Word(2)).instruction().op, 32);
+    }
+}
