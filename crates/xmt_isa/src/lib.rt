@@ -19,7 +19,10 @@ mod tests {
             ((11, 8, 9, 10, 0), Operation::Binary(BinOp::BitOr, 8, 9, 10)),
             ((22, 0, 9, 0, 7), Operation::IfNot(9, 7)),
             ((30, 0, 3, 0, 4), Operation::Check(3, 4)),
-            ((34, 3, 4, 0, 6), Operation::Load(3, Location::Indexed(4, 6))),
+            (
+                (34, 3, 4, 0, 6),
+                Operation::Load(3, Location::Indexed(4, 6)),
+            ),
             ((42, 8, 0, 0, 1), Operation::Add(8, Location::Register(1))),
             ((44, 3, 4, 0, 256), Operation::Spawn(3, 4, 256)),
         ];
