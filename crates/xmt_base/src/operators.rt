@@ -85,7 +85,11 @@ fn checked_quotient(a: u32, b: u32) -> Option<u32>
     if b == 0 {
         return None;
     }
-    Some(a.cast_signed().wrapping_div(b.cast_signed()).cast_unsigned())
+    Some(
+        a.cast_signed()
+            .wrapping_div(b.cast_signed())
+            .cast_unsigned(),
+    )
 }
 
 // What that quotient leaves over.
@@ -95,5 +99,9 @@ fn checked_remainder(a: u32, b: u32) -> Option<u32>
     if b == 0 {
         return None;
     }
-    Some(a.cast_signed().wrapping_rem(b.cast_signed()).cast_unsigned())
+    Some(
+        a.cast_signed()
+            .wrapping_rem(b.cast_signed())
+            .cast_unsigned(),
+    )
 }
