@@ -1,0 +1,12 @@
+//! The typed tree of a program, where its globals lie and what they open with.
+#![tactic(auto)]
+
+mod globals;
+mod tree;
+
+pub use globals::{layout, opening};
+pub use tree::{Expr, ExprKind, Function, GlobalVar, Program, Register, Spot, Stmt, StmtKind};
+pub use xmt_base::{BinOp, UnOp};
+
+#[cfg(test)]
+mod tests;
