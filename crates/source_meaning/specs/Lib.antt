@@ -1,1 +1,11 @@
 pub mod Layout
+pub mod Store
+pub mod Term
+pub mod Next
+pub mod Inside
+pub mod Variables
+pub mod Code
+pub mod Run
+pub mod Apart
+pub mod Trace
+pub mod Opened
