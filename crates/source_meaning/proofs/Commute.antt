@@ -1,5 +1,5 @@
 -- Steps of different threads on different cells commute.
-use Rattle.std.proofs.Common.{◌≡◌, ◌≢◌, refl, sym, ◌∙◌, ap, subst, ℕ, suc, zero, ◌+◌, ◌%◌, ◌^◌, ◌<◌, Bool, true, false, not, ◌&&◌, List, [], ◌∷◌, ◌++◌, length, set, arith, Option, Some, None, is_none, append-nil, slice_get}
+use Rattle.std.proofs.Common.{unwrap_or, ◌≡◌, ◌≢◌, refl, sym, ◌∙◌, ap, subst, ℕ, suc, zero, ◌+◌, ◌%◌, ◌^◌, ◌<◌, Bool, true, false, not, ◌&&◌, List, [], ◌∷◌, ◌++◌, length, set, arith, Option, Some, None, is_none, append-nil, slice_get}
 use Rattle.std.specs.List.{list_all}
 use Rattle.std.proofs.lemmas.List.{length-set, set_comm, set-append_left}
 use Rattle.std.proofs.lemmas.Option.{slice_get_within}
@@ -7,9 +7,10 @@ use mathlib.Core.Path.{fun_ext}
 use Rattle.source_meaning.specs.declared.tree.Program.{Program}
 use Rattle.source_meaning.specs.Store.{Cell, Word, Register, Outer, Private, same_cell, Store, store_with}
 use Rattle.source_meaning.specs.Term.{Code}
-use Rattle.source_meaning.specs.Next.{Ask, Quietly, Loading, Storing, Adding, Printing, Spawning, Joining, Ending, Asks}
-use Rattle.source_meaning.specs.Run.{Thread, Configuration, next_of_rest, has_ended, is_child, waits_for, may_go, reply, store_after, text_of, new_threads, after_answer, step}
+use Rattle.source_meaning.specs.Next.{Ask, Quietly, Loading, Storing, Adding, Printing, Spawning, Joining, Ending, Next, Is, Asks, Traps}
+use Rattle.source_meaning.specs.Run.{Thread, Configuration, next_of_rest, has_ended, is_child, waits_for, may_go, reply, store_after, text_of, new_threads, after_answer, next_of_thread, can_step, step}
 use Rattle.source_meaning.specs.Apart.{cell_of, is_of_store, are_apart}
+use Rattle.source_meaning.specs.Laws.{ask_in, Commute, StepsCommute}
 
 -- ---- cells
 
@@ -108,14 +109,14 @@ not_true false h = refl
 
 -- ---- lists of threads
 
-slice_get-set_other : {X : Type 0} (xs : List X) (t u : ℕ) (x : X) → t ≢ u → slice_get (set xs t x) u ≡ slice_get xs u
+pub slice_get-set_other : {X : Type 0} (xs : List X) (t u : ℕ) (x : X) → t ≢ u → slice_get (set xs t x) u ≡ slice_get xs u
 slice_get-set_other [] t u x differ = refl
 slice_get-set_other (y ∷ xs) zero zero x differ = absurd (differ refl)
 slice_get-set_other (y ∷ xs) zero (suc u) x differ = refl
 slice_get-set_other (y ∷ xs) (suc t) zero x differ = refl
 slice_get-set_other (y ∷ xs) (suc t) (suc u) x differ = slice_get-set_other xs t u x (λ e. differ (ap suc e))
 
-slice_get-append : {X : Type 0} (xs ys : List X) (u : ℕ) (x : X) → slice_get xs u ≡ Some x → slice_get (xs ++ ys) u ≡ Some x
+pub slice_get-append : {X : Type 0} (xs ys : List X) (u : ℕ) (x : X) → slice_get xs u ≡ Some x → slice_get (xs ++ ys) u ≡ Some x
 slice_get-append [] ys u x there = cc
 slice_get-append (y ∷ xs) ys zero x there = there
 slice_get-append (y ∷ xs) ys (suc u) x there = slice_get-append xs ys u x there
@@ -131,7 +132,7 @@ waits_for_none u old new parent live waits =
     by_end false is no_child = rw is no_child
 
 -- a thread that has not ended is none that is waited for, and what it becomes is none either
-waiting-set : (threads : List Thread) (u t : ℕ) (old new : Thread) → new.parent ≡ old.parent → slice_get threads t ≡ Some old → has_ended old ≡ false → list_all (λ thread. not (waits_for u thread)) threads ≡ true → list_all (λ thread. not (waits_for u thread)) (set threads t new) ≡ true
+pub waiting-set : (threads : List Thread) (u t : ℕ) (old new : Thread) → new.parent ≡ old.parent → slice_get threads t ≡ Some old → has_ended old ≡ false → list_all (λ thread. not (waits_for u thread)) threads ≡ true → list_all (λ thread. not (waits_for u thread)) (set threads t new) ≡ true
 waiting-set [] u t old new parent there live ended = cc
 waiting-set (x ∷ threads) u zero old new parent there live ended =
     let same : x ≡ old = cc in
@@ -146,14 +147,14 @@ waiting-set (x ∷ threads) u (suc t) old new parent there live ended =
 
 -- ---- steps
 
-same_configuration : {s s' : Store} {ts ts' : List Thread} {o o' : List ℕ} → s ≡ s' → ts ≡ ts' → o ≡ o' → ◌≡◌ {A = Configuration} (record { store = s; threads = ts; output = o }) (record { store = s'; threads = ts'; output = o' })
+pub same_configuration : {s s' : Store} {ts ts' : List Thread} {o o' : List ℕ} → s ≡ s' → ts ≡ ts' → o ≡ o' → ◌≡◌ {A = Configuration} (record { store = s; threads = ts; output = o }) (record { store = s'; threads = ts'; output = o' })
 same_configuration p q r = λ i. record { store = p i; threads = q i; output = r i }
 
 -- a step of a thread whose code asks something that may go
 pub step_is : (p : Program) (c : Configuration) (t : ℕ) (thread : Thread) (a : Ask) (f : ℕ → Option Code) → slice_get c.threads t ≡ Some thread → next_of_rest p t thread.number thread.code ≡ Asks a f → may_go t c.threads a ≡ true → step p c t ≡ after_answer c t thread a f
 step_is p c t thread a f there next goes = rw there (rw next (rw goes refl))
 
-asks_live : (p : Program) (t number : ℕ) (code : Option Code) (a : Ask) (f : ℕ → Option Code) → next_of_rest p t number code ≡ Asks a f → is_none code ≡ false
+pub asks_live : (p : Program) (t number : ℕ) (code : Option Code) (a : Ask) (f : ℕ → Option Code) → next_of_rest p t number code ≡ Asks a f → is_none code ≡ false
 asks_live p t number None a f next = cc
 asks_live p t number (Some code) a f next = refl
 
@@ -187,7 +188,7 @@ of_store_prints_none (Printing text) h = cc
 of_store_prints_none (Spawning site low high block) h = cc
 of_store_prints_none Joining h = cc
 
-still_goes : (threads : List Thread) (u t : ℕ) (old new : Thread) (b : Ask) → new.parent ≡ old.parent → slice_get threads t ≡ Some old → has_ended old ≡ false → may_go u threads b ≡ true → may_go u (set threads t new) b ≡ true
+pub still_goes : (threads : List Thread) (u t : ℕ) (old new : Thread) (b : Ask) → new.parent ≡ old.parent → slice_get threads t ≡ Some old → has_ended old ≡ false → may_go u threads b ≡ true → may_go u (set threads t new) b ≡ true
 still_goes threads u t old new Quietly parent there live goes = refl
 still_goes threads u t old new Ending parent there live goes = refl
 still_goes threads u t old new (Loading x) parent there live goes = refl
@@ -283,3 +284,56 @@ steps_commute p c t u first second a b f g differ first_there second_there first
         ap (λ ts. ts ++ more) (set_comm c.threads t u new_first new_second differ) ∙
         sym (set-append_left (set c.threads u new_second) more t new_first (subst (λ n. t < n) (sym (length-set c.threads u new_second)) (slice_get_within c.threads t first first_there))) ∙
         sym (ap (λ n. set (set c.threads u new_second ++ more) t (record first { code = f n })) first_told)
+
+-- ---- the law, said of what threads ask
+
+module _ (p : Program) (c : Configuration) (t u : ℕ) (differ : t ≢ u) where
+  both_orders : (first second : Thread) (a b : Ask) (f g : ℕ → Option Code) → slice_get c.threads t ≡ Some first → slice_get c.threads u ≡ Some second → next_of_rest p t first.number first.code ≡ Asks a f → next_of_rest p u second.number second.code ≡ Asks b g → is_of_store a ≡ true → may_go u c.threads b ≡ true → are_apart (cell_of a) (cell_of b) ≡ true → Commute p c t u
+  both_orders first second a b f g first_there second_there first_next second_next of_store goes apart = record {
+    legal = (can_step_is c t first a f first_there first_next (of_store_goes a t c.threads of_store), (after_first, tt));
+    turned = (can_step_is c u second b g second_there second_next goes, (after_second, tt));
+    same = steps_commute p c t u first second a b f g differ first_there second_there first_next second_next of_store goes apart;
+  }
+    where
+      can_step_is : (d : Configuration) (v : ℕ) (thread : Thread) (x : Ask) (h : ℕ → Option Code) → slice_get d.threads v ≡ Some thread → next_of_rest p v thread.number thread.code ≡ Asks x h → may_go v d.threads x ≡ true → can_step p d v ≡ true
+      can_step_is d v thread x h there next may = rw there (rw next may)
+
+      new_first : Thread
+      new_first = record first { code = f (reply c a) }
+
+      first_step : step p c t ≡ record { store = store_after c.store a; threads = set c.threads t new_first; output = c.output }
+      first_step = step_is p c t first a f first_there first_next (of_store_goes a t c.threads of_store) ∙ after_answer_of_store c t first a f of_store
+
+      after_first : can_step p (step p c t) u ≡ true
+      after_first =
+          ap (λ d. can_step p d u) first_step ∙
+          can_step_is (record { store = store_after c.store a; threads = set c.threads t new_first; output = c.output }) u second b g
+          (slice_get-set_other c.threads t u new_first differ ∙ second_there) second_next
+          (still_goes c.threads u t first new_first b refl first_there (asks_live p t first.number first.code a f first_next) goes)
+
+      after_second : can_step p (step p c u) t ≡ true
+      after_second =
+          ap (λ d. can_step p d t) (step_is p c u second b g second_there second_next goes) ∙
+          can_step_is (after_answer c u second b g) t first a f
+          (slice_get-append (set c.threads u (record second { code = g (reply c b) })) (new_threads u second.outermost (length c.threads) b) t first (slice_get-set_other c.threads u t (record second { code = g (reply c b) }) (λ e. differ (sym e)) ∙ first_there))
+          first_next (of_store_goes a t (after_answer c u second b g).threads of_store)
+
+none_is_some : {X : Type 0} {x : X} → None ≡ Some x → ⊥
+none_is_some h = cc
+
+-- a thread that asks is there, and its code asks
+asks_there : {Goal : Type 0} (p : Program) (t : ℕ) (there : Option Thread) (a : Ask) → ask_in (next_of_thread p t there) ≡ Some a → ((thread : Thread) (f : ℕ → Option Code) → there ≡ Some thread → next_of_rest p t thread.number thread.code ≡ Asks a f → Goal) → Goal
+asks_there {Goal} p t None a asks go = absurd (none_is_some asks)
+asks_there {Goal} p t (Some thread) a asks go = by_next (next_of_rest p t thread.number thread.code) refl asks
+  where
+    by_next : (n : Next (Option Code) (Unit {0})) → next_of_rest p t thread.number thread.code ≡ n → ask_in n ≡ Some a → Goal
+    by_next (Is result) is h = absurd (none_is_some h)
+    by_next (Traps kind line) is h = absurd (none_is_some h)
+    by_next (Asks b f) is h = let same : b ≡ a = ap (λ o. unwrap_or o a) h in go thread f refl (is ∙ ap (λ x. Asks x f) same)
+
+pub steps_commute_in_runs : StepsCommute
+steps_commute_in_runs p c t u a b differ first_asks second_asks second_can of_store apart =
+    asks_there p t (slice_get c.threads t) a first_asks (λ first f first_there first_next.
+    asks_there p u (slice_get c.threads u) b second_asks (λ second g second_there second_next.
+    let goes : may_go u c.threads b ≡ true = sym (rw second_there (rw second_next refl)) ∙ second_can in
+    both_orders p c t u differ first second a b f g first_there second_there first_next second_next of_store goes apart))

@@ -5,4 +5,5 @@ pub mod Within
 pub mod Runs
 pub mod Bridge
 pub mod Alone
+pub mod Unseen
 mod Worked

@@ -9,3 +9,4 @@ pub mod Run
 pub mod Apart
 pub mod Trace
 pub mod Opened
+pub mod Laws

@@ -2,9 +2,11 @@
 #![tactic(auto)]
 
 mod globals;
+mod meaning;
 mod tree;
 
 pub use globals::{layout, opening};
+pub use meaning::laws_of_runs;
 pub use tree::{Expr, ExprKind, Function, GlobalVar, Program, Register, Spot, Stmt, StmtKind};
 pub use xmt_base::{BinOp, UnOp};
 
