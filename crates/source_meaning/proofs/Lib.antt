@@ -1,4 +1,5 @@
 pub mod Written
+pub mod Rows
 pub mod Laws
 pub mod Commute
 pub mod Within

@@ -1,12 +1,12 @@
 -- What a thread does by itself where no other thread can see it, it does in the configuration.
-use Rattle.std.proofs.Common.{◌≡◌, refl, sym, ◌∙◌, ap, subst, ℕ, suc, zero, Bool, true, false, not, List, [], ◌∷◌, ◌++◌, append-nil, set, Option, Some, None, slice_get, replicate, unwrap_or}
+use Rattle.std.proofs.Common.{◌≡◌, refl, sym, ◌∙◌, ap, subst, ℕ, suc, zero, true, not, List, [], ◌∷◌, ◌++◌, append-nil, set, Option, Some, None, slice_get, replicate, unwrap_or}
 use Rattle.std.specs.List.{list_all}
 use Rattle.xmt_base.specs.Action.{Action}
 use Rattle.source_meaning.specs.declared.tree.Program.{Program}
-use Rattle.source_meaning.specs.Store.{Word, Register, Outer, Private, Store}
+use Rattle.source_meaning.specs.Store.{Word, Register, Outer, Private}
 use Rattle.source_meaning.specs.Term.{Code}
 use Rattle.source_meaning.specs.Next.{Ask, Quietly, Loading, Storing, Adding, Printing, Spawning, Joining, Ending, Next, Is, Asks, Traps}
-use Rattle.source_meaning.specs.Run.{Thread, Configuration, next_of_rest, waits_for, may_go, reply, store_after, can_step, step, after, IsLegal, after_answer}
+use Rattle.source_meaning.specs.Run.{Thread, Configuration, next_of_rest, waits_for, may_go, reply, store_after, after, IsLegal, after_answer}
 use Rattle.source_meaning.specs.Trace.{Local, action_of, reply_to, step_with_reply, step_of, trace_then, and_then, local_run}
 use Rattle.source_meaning.specs.Laws.{UnseenRun}
 use Rattle.source_meaning.proofs.Commute.{step_is, waiting-set, asks_live, same_configuration, after_answer_of_store}
@@ -112,15 +112,14 @@ module _ (program : Program) (t : ℕ) where
   one_more c thread work end a f later there free next unseen rest =
       let live = asks_live program t thread.number thread.code a f next in
       let comes : Comes program (record { store = store_after c.store a; threads = set c.threads t (record thread { code = f (reply c a) }); output = c.output }) t (record thread { code = f (reply c a) }) work end =
-          later _ (record thread { code = f (reply c a) })
-          (slice_get-set c.threads t thread (record thread { code = f (reply c a) }) there)
-          (waiting-set c.threads t t thread (record thread { code = f (reply c a) }) refl there live free)
-          rest in
-      let stepped = step_is program c t thread a f there next (goes t c.threads a free) ∙ answer_is c t thread a f unseen in
-      (
+      later _ (record thread { code = f (reply c a) })
+      (slice_get-set c.threads t thread (record thread { code = f (reply c a) }) there)
+      (waiting-set c.threads t t thread (record thread { code = f (reply c a) }) refl there live free)
+      rest in
+      let stepped = step_is program c t thread a f there next (goes t c.threads a free) ∙ answer_is c t thread a f unseen in (
         (rw there (rw next (goes t c.threads a free)), subst (λ d. IsLegal program d (replicate work t)) (sym stepped) comes.0),
         ap (λ d. after program d (replicate work t)) stepped ∙ comes.1 ∙
-        ap (λ threads. record { store = end.store; threads = threads; output = c.output }) (set_twice c.threads t _ _),
+            ap (λ threads. record { store = end.store; threads = threads; output = c.output }) (set_twice c.threads t _ _),
       )
 
   by_reply : (c : Configuration) (thread : Thread) (work : ℕ) (end : Local (Option Code)) (a : Ask) (f : ℕ → Option Code) (told_this : Option (ℕ × List ℕ)) →
@@ -150,12 +149,11 @@ module _ (program : Program) (t : ℕ) where
 
   comes_there : (work : ℕ) (end : Local (Option Code)) (c : Configuration) (thread : Thread) → Run c thread work end
   comes_there zero end c thread there free runs =
-      let same : record { code = thread.code; store = c.store; replies = [] } ≡ end = ap (λ p. p.1) (from_some ([], record { code = thread.code; store = c.store; replies = [] }) ([], end) runs) in
-      (
+      let same : record { code = thread.code; store = c.store; replies = [] } ≡ end = ap (λ p. p.1) (from_some ([], record { code = thread.code; store = c.store; replies = [] }) ([], end) runs) in (
         tt,
         same_configuration (ap (λ (l : Local (Option Code)). l.store) same)
-        (sym (set_there c.threads t thread there) ∙ ap (λ (l : Local (Option Code)). set c.threads t (record thread { code = l.code })) same)
-        refl,
+            (sym (set_there c.threads t thread there) ∙ ap (λ (l : Local (Option Code)). set c.threads t (record thread { code = l.code })) same)
+            refl,
       )
   comes_there (suc work) end c thread there free runs =
       by_next c thread work end (next_of_rest program t thread.number thread.code) (comes_there work end) there free refl runs

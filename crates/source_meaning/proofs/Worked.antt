@@ -17,3 +17,4 @@ mod ForLoop
 mod NestedCalls
 mod Loops
 mod StepTable
+mod TrapLines

@@ -12,18 +12,6 @@ use Rattle.source_meaning.specs.declared.tree.Spot.{Spot}
 use Rattle.source_meaning.specs.declared.tree.Stmt.{Stmt}
 use Rattle.source_meaning.specs.declared.tree.StmtKind.{StmtKind}
 use Rattle.source_meaning.specs.declared.tree.StmtKind.TheVariants as stmt
-use Rattle.source_meaning.specs.declared.tree.ExprKind.TheBlock.{shape-the_row-Expr-0, hidden-the_row-Expr-0, shape-the_row-Expr-1, hidden-the_row-Expr-1}
-use Rattle.source_meaning.specs.declared.tree.StmtKind.TheBlock.{shape-the_row-Stmt-0, hidden-the_row-Stmt-0, shape-the_row-Stmt-1, hidden-the_row-Stmt-1}
-use denote.Hole.Carrier.{hidden}
-use Rattle.std.specs.Fmt.{digits}
-
--- all that unfolds when the meaning runs on a tree that is written out
-unfoldable pub everything : Unit {0}
-unfolding
-    shape-the_row-Expr-0 hidden-the_row-Expr-0 shape-the_row-Expr-1 hidden-the_row-Expr-1
-    shape-the_row-Stmt-0 hidden-the_row-Stmt-0 shape-the_row-Stmt-1 hidden-the_row-Stmt-1
-    hidden digits
-everything = tt
 
 abbrev pub e : ExprKind → Expr
 e kind = record { at = record { line = 1; column = 1 }; kind = kind }

@@ -5,9 +5,9 @@ use Rattle.xmt_base.specs.Action.{Action}
 use Rattle.source_meaning.specs.declared.tree.Program.{Program}
 use Rattle.source_meaning.specs.Store.{Store}
 use Rattle.source_meaning.specs.Term.{Term, Code}
-use Rattle.source_meaning.specs.Next.{Ask, Next, Is, Asks, Traps, next_within, next}
+use Rattle.source_meaning.specs.Next.{Ask, Next, Asks, next_within, next}
 use Rattle.source_meaning.specs.Code.{call_code}
-use Rattle.source_meaning.specs.Run.{Thread, Configuration, next_of_rest, next_of, waits_for, can_step, step, after, IsLegal}
+use Rattle.source_meaning.specs.Run.{Thread, Configuration, next_of_rest, next_of, waits_for, can_step, after, IsLegal}
 use Rattle.source_meaning.specs.Apart.{cell_of, is_of_store, are_apart}
 use Rattle.source_meaning.specs.Trace.{Local, local_run}
 

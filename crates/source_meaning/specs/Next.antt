@@ -1,4 +1,4 @@
--- The one step of a thread: what comes next in its code. Each line that says `Asks` is one step, and nothing else is.
+-- The one step of a thread: what comes next in its code. What says `Asks` or `quiet_step` is one step, and nothing else is.
 use Rattle.std.specs.Prelude.{ℕ, suc, ◌+◌, ◌==◌, nat_lt, nat_le, Bool, true, if◌then◌else◌, List, [], ◌∷◌, Option, Some, None}
 use Rattle.xmt_base.specs.declared.values.TrapKind.{TrapKind}
 use Rattle.xmt_base.specs.declared.values.TrapKind.TheVariants.{DivideByZero, Index, PsIncrement, CallDepth}

@@ -1,4 +1,5 @@
-//! The typed tree of a program, where its globals lie and what they open with.
+//! The typed tree of a program, where its globals lie and what they open with, and what a program
+//! means: `specs/` has the meaning, and `laws_of_runs` its laws.
 #![tactic(auto)]
 
 mod globals;

@@ -9,7 +9,9 @@ use Rattle.source_meaning.specs.declared.tree.ExprKind.TheVariants as expr
 use Rattle.source_meaning.specs.declared.tree.Spot.TheVariants as spot
 use Rattle.source_meaning.specs.declared.tree.StmtKind.TheVariants as stmt
 use Rattle.source_meaning.specs.Run.{start, after, rising}
-use Rattle.source_meaning.proofs.Written.{e, s, number, read, binary, scalar, function, program_of, dollar, everything}
+use Rattle.std.specs.Fmt.{digits}
+use Rattle.source_meaning.specs.Opened.{opened}
+use Rattle.source_meaning.proofs.Written.{e, s, number, read, binary, scalar, function, program_of, dollar}
 
 program : (low high start : Expr) → Program
 program low high start = program_of (scalar (codes "T") ∷ []) []
@@ -27,9 +29,9 @@ unfolding program
 negative = program (e (expr.Unary un.Neg (number 2))) (number 1) dollar
 
 prints_1 : (after greatest (start greatest (0 ∷ [])) (rising greatest (start greatest (0 ∷ [])) 200)).output ≡ codes "1\n"
-unfolding everything program greatest
+unfolding opened digits program greatest
 prints_1 = refl
 
 prints_minus_2 : (after negative (start negative (0 ∷ [])) (rising negative (start negative (0 ∷ [])) 200)).output ≡ codes "-2\n"
-unfolding everything program negative
+unfolding opened digits program negative
 prints_minus_2 = refl

@@ -8,7 +8,9 @@ use Rattle.source_meaning.specs.declared.tree.ExprKind.TheVariants as expr
 use Rattle.source_meaning.specs.declared.tree.Spot.TheVariants as spot
 use Rattle.source_meaning.specs.declared.tree.StmtKind.TheVariants as stmt
 use Rattle.source_meaning.specs.Run.{Configuration, start, after, is_over, rising}
-use Rattle.source_meaning.proofs.Written.{e, s, number, read, binary, assign, array, function, program_of, dollar, everything}
+use Rattle.std.specs.Fmt.{digits}
+use Rattle.source_meaning.specs.Opened.{opened}
+use Rattle.source_meaning.proofs.Written.{e, s, number, read, binary, assign, array, function, program_of, dollar}
 
 i : Expr
 i = read (spot.Local 0)
@@ -38,9 +40,9 @@ unfolding program
 opening = start program (5 ∷ 0 ∷ 7 ∷ 0 ∷ 0 ∷ 9 ∷ 0 ∷ 0 ∷ 0 ∷ 0 ∷ 0 ∷ 0 ∷ [])
 
 prints_3_21 : (after program opening (rising program opening 400)).output ≡ codes "3 21\n"
-unfolding everything program opening i
+unfolding opened digits program opening i
 prints_3_21 = refl
 
 ends : is_over (after program opening (rising program opening 400)) ≡ true
-unfolding everything program opening i
+unfolding opened digits program opening i
 ends = refl

@@ -9,7 +9,9 @@ use Rattle.source_meaning.specs.declared.tree.ExprKind.TheVariants as expr
 use Rattle.source_meaning.specs.declared.tree.Spot.TheVariants as spot
 use Rattle.source_meaning.specs.declared.tree.StmtKind.TheVariants as stmt
 use Rattle.source_meaning.specs.Run.{Configuration, start, after, rising, traps}
-use Rattle.source_meaning.proofs.Written.{e, s, number, read, binary, scalar, function, program_of, everything}
+use Rattle.std.specs.Fmt.{digits}
+use Rattle.source_meaning.specs.Opened.{opened}
+use Rattle.source_meaning.proofs.Written.{e, s, number, read, binary, scalar, function, program_of}
 
 program : Program
 program = program_of (scalar (codes "z") ∷ []) []
@@ -24,9 +26,9 @@ unfolding program
 opening = start program (0 ∷ [])
 
 prints : (after program opening (rising program opening 300)).output ≡ codes "-2147483648\n"
-unfolding everything program opening
+unfolding opened digits program opening
 prints = refl
 
 stands : traps program (after program opening (rising program opening 300)) ≡ record { kind = DivideByZero; line = 1; thread = None } ∷ []
-unfolding everything program opening
+unfolding opened digits program opening
 stands = refl

@@ -8,7 +8,9 @@ use Rattle.source_meaning.specs.declared.tree.ExprKind.TheVariants as expr
 use Rattle.source_meaning.specs.declared.tree.Spot.TheVariants as spot
 use Rattle.source_meaning.specs.declared.tree.StmtKind.TheVariants as stmt
 use Rattle.source_meaning.specs.Run.{Configuration, start, after, is_over, rising}
-use Rattle.source_meaning.proofs.Written.{e, s, number, read, binary, assign, function, program_of, everything}
+use Rattle.std.specs.Fmt.{digits}
+use Rattle.source_meaning.specs.Opened.{opened}
+use Rattle.source_meaning.proofs.Written.{e, s, number, read, binary, assign, function, program_of}
 
 i : Expr
 i = read (spot.Local 0)
@@ -32,9 +34,9 @@ unfolding program
 opening = start program []
 
 prints_12 : (after program opening (rising program opening 300)).output ≡ codes "12\n"
-unfolding everything program opening i
+unfolding opened digits program opening i
 prints_12 = refl
 
 ends : is_over (after program opening (rising program opening 300)) ≡ true
-unfolding everything program opening i
+unfolding opened digits program opening i
 ends = refl

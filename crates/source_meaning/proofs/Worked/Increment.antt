@@ -6,7 +6,9 @@ use Rattle.source_meaning.specs.declared.tree.Program.{Program}
 use Rattle.source_meaning.specs.declared.tree.Spot.TheVariants as spot
 use Rattle.source_meaning.specs.declared.tree.StmtKind.TheVariants as stmt
 use Rattle.source_meaning.specs.Run.{Configuration, start, after, rising, traps}
-use Rattle.source_meaning.proofs.Written.{s, number, function, program_of, everything}
+use Rattle.std.specs.Fmt.{digits}
+use Rattle.source_meaning.specs.Opened.{opened}
+use Rattle.source_meaning.proofs.Written.{s, number, function, program_of}
 
 program : Program
 program = program_of [] (record { name = codes "r"; opening = 0 } ∷ [])
@@ -17,5 +19,5 @@ unfolding program
 opening = start program []
 
 stands : traps program (after program opening (rising program opening 300)) ≡ record { kind = PsIncrement; line = 1; thread = None } ∷ []
-unfolding everything program opening
+unfolding opened digits program opening
 stands = refl

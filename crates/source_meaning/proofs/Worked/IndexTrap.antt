@@ -9,7 +9,9 @@ use Rattle.source_meaning.specs.Run.{Configuration, start, after, rising, traps}
 use Rattle.std.proofs.Common.{inl, inr}
 use Rattle.xmt_base.specs.Action.{Word, Store, Spawn, Trap, Ended, Main, Block}
 use Rattle.source_meaning.specs.Trace.{traces_of}
-use Rattle.source_meaning.proofs.Written.{s, number, assign, array, function, program_of, dollar, everything}
+use Rattle.std.specs.Fmt.{digits}
+use Rattle.source_meaning.specs.Opened.{opened}
+use Rattle.source_meaning.proofs.Written.{s, number, assign, array, function, program_of, dollar}
 
 program : Program
 program = program_of (array (codes "A") 2 ∷ []) []
@@ -21,24 +23,24 @@ opening = start program (0 ∷ 0 ∷ [])
 
 -- under the rising schedule thread 2 comes to stand at the trap, and nothing is printed
 stands : traps program (after program opening (rising program opening 200)) ≡ record { kind = Index; line = 1; thread = Some 2 } ∷ []
-unfolding everything program opening
+unfolding opened digits program opening
 stands = refl
 
 prints_nothing : (after program opening (rising program opening 200)).output ≡ []
-unfolding everything program opening
+unfolding opened digits program opening
 prints_nothing = refl
 
 -- the serial code spawns its block at its first step
 serial : traces_of program Main [] (Spawn 0 0 2 ∷ []) 1
-unfolding everything program opening
+unfolding opened digits program opening
 serial = (Spawn 0 0 2 ∷ [], _, refl, inl refl)
 
 -- thread 1 writes word 1 and ends: `$`, the test, the write, the end of the statement, the end of the thread
 writes : traces_of program (Block (Spawn 0 0 2 ∷ []) [] 1) [] (Store (Word 1) 7 ∷ Ended ∷ []) 5
-unfolding everything program opening
+unfolding opened digits program opening
 writes = (0, [], _, _, refl, refl, (1, omega arith, refl), refl, (Store (Word 1) 7 ∷ Ended ∷ [], _, refl, inl refl))
 
 -- thread 2 stands at the trap after one step
 traps_there : traces_of program (Block (Spawn 0 0 2 ∷ []) [] 2) [] (Trap Index 1 ∷ []) 1
-unfolding everything program opening
+unfolding opened digits program opening
 traps_there = (0, [], _, _, refl, refl, (2, omega arith, refl), refl, ([], _, refl, inr refl))

@@ -6,7 +6,9 @@ use Rattle.source_meaning.specs.declared.tree.ExprKind.TheVariants as expr
 use Rattle.source_meaning.specs.declared.tree.Spot.TheVariants as spot
 use Rattle.source_meaning.specs.declared.tree.StmtKind.TheVariants as stmt
 use Rattle.source_meaning.specs.Run.{Configuration, start, after, is_over, rising}
-use Rattle.source_meaning.proofs.Written.{e, s, number, read, assign, array, function, everything}
+use Rattle.std.specs.Fmt.{digits}
+use Rattle.source_meaning.specs.Opened.{opened}
+use Rattle.source_meaning.proofs.Written.{e, s, number, read, assign, array, function}
 
 program : Program
 program = record {
@@ -27,9 +29,9 @@ unfolding program
 opening = start program (0 ∷ 0 ∷ [])
 
 prints_fg_7 : (after program opening (rising program opening 200)).output ≡ codes "fg 7\n"
-unfolding everything program opening
+unfolding opened digits program opening
 prints_fg_7 = refl
 
 ends : is_over (after program opening (rising program opening 200)) ≡ true
-unfolding everything program opening
+unfolding opened digits program opening
 ends = refl

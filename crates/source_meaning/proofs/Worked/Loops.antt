@@ -9,7 +9,9 @@ use Rattle.source_meaning.specs.declared.tree.ExprKind.TheVariants as expr
 use Rattle.source_meaning.specs.declared.tree.Spot.TheVariants as spot
 use Rattle.source_meaning.specs.declared.tree.StmtKind.TheVariants as stmt
 use Rattle.source_meaning.specs.Run.{start, after, rising}
-use Rattle.source_meaning.proofs.Written.{e, s, number, read, binary, function, program_of, everything}
+use Rattle.std.specs.Fmt.{digits}
+use Rattle.source_meaning.specs.Opened.{opened}
+use Rattle.source_meaning.proofs.Written.{e, s, number, read, binary, function, program_of}
 
 i : Expr
 i = read (spot.Local 0)
@@ -45,25 +47,25 @@ printed loop = (after (program loop) (start (program loop) []) (rising (program 
 
 -- `while (i < 10) { i++; .. }`
 while_prints_134 : printed (s (stmt.While (below 10) counting)) ≡ codes "134"
-unfolding everything program i up below is rest counting printed
+unfolding opened digits program i up below is rest counting printed
 while_prints_134 = refl
 
 -- `do { i++; .. } while (i < 10);`
 do_prints_134 : printed (s (stmt.Do counting (below 10))) ≡ codes "134"
-unfolding everything program i up below is rest counting printed
+unfolding opened digits program i up below is rest counting printed
 do_prints_134 = refl
 
 -- `for (; i < 10; i++) { .. }`: a `continue` goes to the third part
 for_prints_0134 : printed (s (stmt.For [] (Some (below 10)) (Some up) (s (stmt.Block rest)))) ≡ codes "0134"
-unfolding everything program i up below is rest counting printed
+unfolding opened digits program i up below is rest counting printed
 for_prints_0134 = refl
 
 -- `do { i++; .. } while (i < 2);`: a `continue` goes to the test
 do_prints_1 : printed (s (stmt.Do counting (below 2))) ≡ codes "1"
-unfolding everything program i up below is rest counting printed
+unfolding opened digits program i up below is rest counting printed
 do_prints_1 = refl
 
 -- `for (;;) { i++; .. }`: without a test it is left by the `break` alone
 endless_prints_134 : printed (s (stmt.For [] None None counting)) ≡ codes "134"
-unfolding everything program i up below is rest counting printed
+unfolding opened digits program i up below is rest counting printed
 endless_prints_134 = refl

@@ -1,5 +1,5 @@
 -- `int d(int k) { if (k == 0) return 0; return 1 + d(k - 1); } main() { printf("%d\n", d(n)); }`: with 255 it calls down to depth 256 and prints 255, and with 256 it stands at the trap of the 257th call. Shown call by call, since so deep a run is too long to compute.
-use Rattle.std.proofs.Common.{◌≡◌, refl, sym, ◌∙◌, ap, subst, arith, ℕ, suc, zero, ◌+◌, ◌*◌, ◌%◌, ◌^◌, ◌-◌, ◌<◌, ◌==◌, List, [], ◌∷◌, ◌++◌, Bool, true, false, Option, Some, None, is_some, replicate}
+use Rattle.std.proofs.Common.{◌≡◌, refl, sym, ◌∙◌, ap, subst, arith, ℕ, suc, zero, ◌+◌, ◌*◌, ◌%◌, ◌^◌, ◌-◌, ◌<◌, ◌==◌, List, [], ◌∷◌, ◌++◌, true, false, Option, Some, None, is_some, replicate}
 use Rattle.std.specs.Prelude.{codes, nat_lt}
 use Rattle.xmt_base.specs.declared.operators.BinOp.TheVariants as op
 use Rattle.xmt_base.specs.declared.values.TrapKind.TheVariants.{CallDepth}
@@ -8,8 +8,8 @@ use Rattle.source_meaning.specs.declared.tree.Expr.{Expr}
 use Rattle.source_meaning.specs.declared.tree.ExprKind.TheVariants as expr
 use Rattle.source_meaning.specs.declared.tree.Spot.TheVariants as spot
 use Rattle.source_meaning.specs.declared.tree.StmtKind.TheVariants as stmt
-use Rattle.source_meaning.specs.Store.{Cell, Private, Store, store_with, same_cell}
-use Rattle.source_meaning.specs.Term.{Term, Value, Read, At, Binary, Call, Entered, Terms, End, More, Code, Done, Then, If, Set, Return, Print}
+use Rattle.source_meaning.specs.Store.{Cell, Private, Store, store_with}
+use Rattle.source_meaning.specs.Term.{Term, Value, Read, At, Binary, Call, Entered, End, More, Code, Done, Then, If, Set, Return, Print}
 use Rattle.xmt_base.specs.Operators.{binary_value}
 use Rattle.xmt_base.specs.Text.{piece}
 use Rattle.std.specs.Fmt.{digits}
@@ -22,7 +22,8 @@ use Rattle.source_meaning.proofs.Laws.{after-append, run_of_part}
 use Rattle.source_meaning.proofs.Runs.{Runs, runs_on}
 use Rattle.source_meaning.proofs.Unseen.{unseen_run}
 use Rattle.source_meaning.proofs.Within.{all_surrounded, run_within}
-use Rattle.source_meaning.proofs.Written.{e, s, number, read, binary, function, everything}
+use Rattle.source_meaning.specs.Opened.{opened}
+use Rattle.source_meaning.proofs.Written.{e, s, number, read, binary, function}
 
 k : Expr
 k = read (spot.Local 0)
@@ -67,7 +68,7 @@ abbrev entered : (depth v : ℕ) → Code
 entered depth v = Then (Set (At (cell depth)) (Value v)) (branch depth (Binary 1 op.Eq (Read (At (cell depth))) (Value 0)))
 
 body_is : (n depth v : ℕ) → call_code (program n) 0 0 depth (v ∷ []) ≡ entered depth v
-unfolding everything program k
+unfolding opened digits program k
 body_is n depth v = refl
 
 -- a call with a value
@@ -187,8 +188,7 @@ module _ (code : (function depth : ℕ) → List ℕ → Code) (is_entered : (de
       let down = descends code is_entered depth m store (is_below depth (omega (arith, deep))) (omega (arith, deep)) in
       let through = inside code depth (call m) rest.0 after_write rest.1 (7 * m) rest.2 in
       let whole = on code is_entered depth (at (call (suc m)) store) (at (around (call m)) after_write) (at (around rest.0) rest.1) 7 (7 * m) down through in
-      let count : 7 + 7 * m ≡ 7 * suc m = omega arith in
-      (
+      let count : 7 + 7 * m ≡ 7 * suc m = omega arith in (
         around rest.0,
         rest.1,
         subst (λ work. Runs (next 0 code depth) (at (call (suc m)) store) [] work (at (around rest.0) rest.1)) count whole,
@@ -215,7 +215,7 @@ next_printing : (n : ℕ) (e : Term) → next_of_rest (program n) 0 0 (printing 
 next_printing n e = by_value n (next 0 (call_code (program n) 0) 0 e)
 
 begins_printing : (n : ℕ) → start (program n) [] ≡ record { store = (start (program n) []).store; threads = record { code = printing (call n); number = 0; outermost = None; parent = None } ∷ []; output = [] }
-unfolding everything program
+unfolding opened digits program
 begins_printing n = refl
 
 -- the configuration of the serial code alone

@@ -5,7 +5,9 @@ use Rattle.source_meaning.specs.declared.tree.Program.{Program}
 use Rattle.source_meaning.specs.declared.tree.Spot.TheVariants as spot
 use Rattle.source_meaning.specs.declared.tree.StmtKind.TheVariants as stmt
 use Rattle.source_meaning.specs.Run.{Configuration, start, after, is_over, rising}
-use Rattle.source_meaning.proofs.Written.{s, number, read, scalar, function, program_of, everything}
+use Rattle.std.specs.Fmt.{digits}
+use Rattle.source_meaning.specs.Opened.{opened}
+use Rattle.source_meaning.proofs.Written.{s, number, read, scalar, function, program_of}
 
 program : Program
 program = program_of (scalar (codes "T") ∷ []) []
@@ -19,14 +21,14 @@ unfolding program
 opening = start program (0 ∷ [])
 
 prints_0 : (after program opening (rising program opening 200)).output ≡ codes "0\n"
-unfolding everything program opening
+unfolding opened digits program opening
 prints_0 = refl
 
 ends : is_over (after program opening (rising program opening 200)) ≡ true
-unfolding everything program opening
+unfolding opened digits program opening
 ends = refl
 
 -- the spawn, the join, the read, the print and the end
 rises : rising program opening 200 ≡ 0 ∷ 0 ∷ 0 ∷ 0 ∷ 0 ∷ []
-unfolding everything program opening
+unfolding opened digits program opening
 rises = refl

@@ -6,7 +6,9 @@ use Rattle.source_meaning.specs.declared.tree.Program.{Program}
 use Rattle.source_meaning.specs.declared.tree.Spot.TheVariants as spot
 use Rattle.source_meaning.specs.declared.tree.StmtKind.TheVariants as stmt
 use Rattle.source_meaning.specs.Run.{Configuration, start, after, rising}
-use Rattle.source_meaning.proofs.Written.{s, number, read, binary, assign, function, program_of, dollar, everything}
+use Rattle.std.specs.Fmt.{digits}
+use Rattle.source_meaning.specs.Opened.{opened}
+use Rattle.source_meaning.proofs.Written.{s, number, read, binary, assign, function, program_of, dollar}
 
 program : Program
 program = program_of [] []
@@ -22,5 +24,5 @@ unfolding program
 opening = start program []
 
 prints_10 : (after program opening (rising program opening 200)).output ≡ codes "10\n"
-unfolding everything program opening
+unfolding opened digits program opening
 prints_10 = refl

@@ -8,7 +8,9 @@ use Rattle.source_meaning.specs.declared.tree.ExprKind.TheVariants as expr
 use Rattle.source_meaning.specs.declared.tree.Spot.TheVariants as spot
 use Rattle.source_meaning.specs.declared.tree.StmtKind.TheVariants as stmt
 use Rattle.source_meaning.specs.Run.{Configuration, start, after, is_over, rising}
-use Rattle.source_meaning.proofs.Written.{e, s, number, read, binary, assign, function, dollar, everything}
+use Rattle.std.specs.Fmt.{digits}
+use Rattle.source_meaning.specs.Opened.{opened}
+use Rattle.source_meaning.proofs.Written.{e, s, number, read, binary, assign, function, dollar}
 
 k : Expr
 k = read (spot.Local 0)
@@ -45,9 +47,9 @@ unfolding program
 opening = start program []
 
 prints_12 : (after program opening (rising program opening 300)).output ≡ codes "12\n"
-unfolding everything program opening k w
+unfolding opened digits program opening k w
 prints_12 = refl
 
 ends : is_over (after program opening (rising program opening 300)) ≡ true
-unfolding everything program opening k w
+unfolding opened digits program opening k w
 ends = refl

@@ -5,7 +5,9 @@ use Rattle.source_meaning.specs.declared.tree.Program.{Program}
 use Rattle.source_meaning.specs.declared.tree.Spot.TheVariants as spot
 use Rattle.source_meaning.specs.declared.tree.StmtKind.TheVariants as stmt
 use Rattle.source_meaning.specs.Run.{Configuration, start, after, is_over, rising, IsLegal}
-use Rattle.source_meaning.proofs.Written.{s, number, read, assign, scalar, function, program_of, dollar, everything}
+use Rattle.std.specs.Fmt.{digits}
+use Rattle.source_meaning.specs.Opened.{opened}
+use Rattle.source_meaning.proofs.Written.{s, number, read, assign, scalar, function, program_of, dollar}
 
 program : Program
 program = program_of (scalar (codes "x") ∷ []) []
@@ -27,21 +29,21 @@ last_to_first : List ℕ
 last_to_first = 0 ∷ 2 ∷ 1 ∷ 2 ∷ 1 ∷ 1 ∷ 2 ∷ 2 ∷ 1 ∷ 0 ∷ 0 ∷ 0 ∷ 0 ∷ []
 
 prints_1 : (after program opening first_to_last).output ≡ codes "1\n"
-unfolding everything program opening first_to_last
+unfolding opened digits program opening first_to_last
 prints_1 = refl
 
 prints_0 : (after program opening last_to_first).output ≡ codes "0\n"
-unfolding everything program opening last_to_first
+unfolding opened digits program opening last_to_first
 prints_0 = refl
 
 ends : is_over (after program opening last_to_first) ≡ true
-unfolding everything program opening last_to_first
+unfolding opened digits program opening last_to_first
 ends = refl
 
 legal : IsLegal program opening last_to_first
-unfolding everything program opening last_to_first
+unfolding opened digits program opening last_to_first
 legal = (refl, (refl, (refl, (refl, (refl, (refl, (refl, (refl, (refl, (refl, (refl, (refl, (refl, tt)))))))))))))
 
 rises : rising program opening 200 ≡ first_to_last
-unfolding everything program opening first_to_last
+unfolding opened digits program opening first_to_last
 rises = refl

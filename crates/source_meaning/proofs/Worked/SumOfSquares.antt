@@ -8,7 +8,9 @@ use Rattle.source_meaning.specs.declared.tree.Spot.{Spot}
 use Rattle.source_meaning.specs.declared.tree.Spot.TheVariants as spot
 use Rattle.source_meaning.specs.declared.tree.StmtKind.TheVariants as stmt
 use Rattle.source_meaning.specs.Run.{Configuration, start, after, is_over, rising}
-use Rattle.source_meaning.proofs.Written.{s, number, read, binary, assign, scalar, array, function, program_of, dollar, everything}
+use Rattle.std.specs.Fmt.{digits}
+use Rattle.source_meaning.specs.Opened.{opened}
+use Rattle.source_meaning.proofs.Written.{s, number, read, binary, assign, scalar, array, function, program_of, dollar}
 
 A : Expr → Spot
 A index = spot.Element 0 index
@@ -28,9 +30,9 @@ opening = start program (0 ∷ 0 ∷ 0 ∷ 0 ∷ 0 ∷ [])
 
 -- the rising schedule prints 18 and ends
 prints_18 : (after program opening (rising program opening 200)).output ≡ codes "18\n"
-unfolding everything program opening A
+unfolding opened digits program opening A
 prints_18 = refl
 
 ends : is_over (after program opening (rising program opening 200)) ≡ true
-unfolding everything program opening A
+unfolding opened digits program opening A
 ends = refl

@@ -5,7 +5,9 @@ use Rattle.source_meaning.specs.declared.tree.Program.{Program}
 use Rattle.source_meaning.specs.declared.tree.Spot.TheVariants as spot
 use Rattle.source_meaning.specs.declared.tree.StmtKind.TheVariants as stmt
 use Rattle.source_meaning.specs.Run.{Configuration, start, after, rising}
-use Rattle.source_meaning.proofs.Written.{s, number, read, scalar, function, program_of, everything}
+use Rattle.std.specs.Fmt.{digits}
+use Rattle.source_meaning.specs.Opened.{opened}
+use Rattle.source_meaning.proofs.Written.{s, number, read, scalar, function, program_of}
 
 program : Program
 program = program_of (scalar (codes "g") ∷ []) []
@@ -19,5 +21,5 @@ unfolding program
 opening = start program (2147483647 ∷ [])
 
 prints : (after program opening (rising program opening 300)).output ≡ codes "2147483647 -2147483648\n"
-unfolding everything program opening
+unfolding opened digits program opening
 prints = refl
