@@ -1,0 +1,26 @@
+-- Facts on what was written.
+use Rattle.std.proofs.Common.{◌≡◌, ℕ, ◌+◌, List, ◌++◌, ◌-◌, length, take, drop, Some, None, Option, ap, ◌∙◌, arith, append_assoc}
+use Rattle.std.proofs.lemmas.List.{take-append-drop, drop-take, take-take}
+use Rattle.std.proofs.lemmas.Grind.{common_steps}
+use Rattle.xmt_top.specs.Streams.{Writes}
+
+-- two prefixes, one behind the other
+take_more_of : (bytes : List ℕ) (at n : ℕ) → take at bytes ++ take n (drop at bytes) ≡ take (at + n) bytes
+take_more_of bytes at n =
+    let whole = take-append-drop at (take (at + n) bytes) in
+    let behind : drop at (take (at + n) bytes) ≡ take n (drop at bytes) = drop-take at n bytes in
+    let front : take at (take (at + n) bytes) ≡ take at bytes = take-take at (at + n) bytes (omega arith) in
+    rw (front, behind) at whole
+
+-- what was written first and what was written then
+pub writes_then : (first then : List ℕ) (old mid new : Option (List ℕ)) → Writes first old mid → Writes then mid new → Writes (first ++ then) old new
+writes_then first then None mid new p q = rw p at q
+writes_then first then (Some out) mid new p q = (rw p at q) ∙ ap (λ bytes. Some bytes) (append_assoc out first then)
+
+-- a further piece was written
+pub writes_more : (bytes : List ℕ) (at n : ℕ) (old mid new : Option (List ℕ)) → Writes (take at bytes) old mid → Writes (take n (drop at bytes)) mid new → Writes (take (at + n) bytes) old new
+writes_more bytes at n old mid new p q = rw (← take_more_of bytes at n) (writes_then (take at bytes) (take n (drop at bytes)) old mid new p q)
+
+-- a slice to the end
+pub slice_rest : (bytes : List ℕ) (at : ℕ) → take (length bytes - at) (drop at bytes) ≡ drop at bytes
+slice_rest bytes at = grind (arith, common_steps)

@@ -1,0 +1,5 @@
+pub mod Complaints
+pub mod Messages
+pub mod Streams
+pub mod Tokens
+pub mod Words

@@ -1,0 +1,37 @@
+-- The lines for the error stream.
+use Rattle.std.specs.Prelude.{ℕ, List, ◌++◌, codes, Option, Some, None}
+use Rattle.std.specs.Fmt.{decimal, signed_decimal}
+use Rattle.xmt_base.specs.declared.values.TrapKind.{TrapKind}
+use Rattle.xmt_base.specs.declared.values.TrapKind.TheVariants.{DivideByZero, Index, PsIncrement, CallDepth, Address}
+use Rattle.xmt_base.specs.declared.values.Trap.{Trap}
+use Rattle.xmt_base.specs.Operators.{signed}
+
+abbrev pub no_job_line : List ℕ
+no_job_line = codes "xmt: words are no command; commands are cc, sim, run, asm, dis, ref, gen\n"
+
+abbrev pub fault_line : List ℕ
+fault_line = codes "xmt: host fault\n"
+
+abbrev pub no_memory_line : List ℕ
+no_memory_line = codes "xmt: out of memory\n"
+
+-- the line for a source that isn't thin
+abbrev pub refusal_line : (file : List ℕ) → List ℕ
+refusal_line file = codes "xmt: " ++ file ++ codes ":1:1: NotThin\n"
+
+abbrev pub kind_name : TrapKind → List ℕ
+kind_name DivideByZero = codes "DivideByZero"
+kind_name Index = codes "Index"
+kind_name PsIncrement = codes "PsIncrement"
+kind_name CallDepth = codes "CallDepth"
+kind_name Address = codes "Address"
+
+-- the line for a trap of this kind on a line, of serial code or of the virtual thread with a number
+abbrev pub line_of_trap : TrapKind → (line : ℕ) → (thread : Option ℕ) → List ℕ
+line_of_trap kind line None = codes "xmt: trap " ++ kind_name kind ++ codes " line " ++ decimal line ++ codes " serial\n"
+line_of_trap kind line (Some number) =
+    codes "xmt: trap " ++ kind_name kind ++ codes " line " ++ decimal line ++ codes " thread " ++ signed_decimal (signed number) ++ codes "\n"
+
+-- the line for a trap
+abbrev pub trap_line : Trap → List ℕ
+trap_line trap = line_of_trap trap.kind trap.line trap.thread

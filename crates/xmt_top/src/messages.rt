@@ -1,0 +1,73 @@
+//! The lines for the error stream.
+ghost use Rattle.std.specs.Prelude.{◌≡◌, ◌++◌, IfOk, codes, string_bytes};
+ghost use Rattle.std.specs.Fmt.{decimal, signed_decimal};
+ghost use Rattle.xmt_base.specs.Operators.{signed};
+ghost use Rattle.xmt_top.specs.Messages.{kind_name, refusal_line, trap_line};
+
+use std::alloc::{AllocError, Global};
+use xmt_base::{Trap, TrapKind};
+
+/// The line for words that are no job.
+pub(crate) const NO_JOB: &[u8] =
+    b"xmt: words are no command; commands are cc, sim, run, asm, dis, ref, gen\n";
+
+/// The line for a fault of the host.
+pub(crate) const HOST_FAULT: &[u8] = b"xmt: host fault\n";
+
+/// The line for want of memory.
+pub(crate) const NO_MEMORY: &[u8] = b"xmt: out of memory\n";
+
+/// The line for a source that isn't thin.
+pub(crate) fn refusal_line(alloc: Global, file: &str) -> Result<String, AllocError>
+    ensures { IfOk result (λ line. string_bytes line ≡ refusal_line file.now) }
+{
+    format!(in alloc; "xmt: {file}:1:1: NotThin\n")
+}
+
+fn kind_name(kind: TrapKind) -> &'static str
+    ensures { result.now ≡ kind_name kind }
+{
+    match kind {
+        TrapKind::DivideByZero => "DivideByZero",
+        TrapKind::Index => "Index",
+        TrapKind::PsIncrement => "PsIncrement",
+        TrapKind::CallDepth => "CallDepth",
+        TrapKind::Address => "Address",
+    }
+}
+
+// The line for a trap of serial code.
+fn serial_trap(alloc: Global, kind: &str, line: u32) -> Result<String, AllocError>
+    ensures { IfOk result (λ text. string_bytes text ≡ codes "xmt: trap " ++ kind.now ++ codes " line " ++ decimal line ++ codes " serial\n") }
+{
+    format!(in alloc; "xmt: trap {kind} line {line} serial\n")
+}
+
+// The line for a trap of the virtual thread with a number.
+fn thread_trap(alloc: Global, kind: &str, line: u32, number: &str) -> Result<String, AllocError>
+    ensures { IfOk result (λ text. string_bytes text ≡ codes "xmt: trap " ++ kind.now ++ codes " line " ++ decimal line ++ codes " thread " ++ number.now ++ codes "\n") }
+{
+    format!(in alloc; "xmt: trap {kind} line {line} thread {number}\n")
+}
+
+// A number, read as signed.
+fn signed_text(alloc: Global, number: u32) -> Result<String, AllocError>
+    ensures { IfOk result (λ text. string_bytes text ≡ signed_decimal (signed number)) }
+{
+    let number = number.cast_signed();
+    format!(in alloc; "{number}")
+}
+
+/// The line for a trap.
+pub(crate) fn trap_line(alloc: Global, trap: Trap) -> Result<String, AllocError>
+    ensures { IfOk result (λ line. string_bytes line ≡ trap_line trap) }
+{
+    let Trap { kind, line, thread } = trap;
+    match thread {
+        None => serial_trap(alloc, kind_name(kind), line),
+        Some(number) => {
+            let number = signed_text(alloc, number)?;
+            thread_trap(alloc, kind_name(kind), line, number.as_str())
+        }
+    }
+}

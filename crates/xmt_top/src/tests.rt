@@ -1,0 +1,238 @@
+use super::*;
+use std::alloc::Global;
+use std::test::Fail;
+use xmt_base::{HostCall, MemoryHost};
+
+const SQUARES: &str =
+    "int A[4]; int s; main() { spawn(0, 3) { A[$] = $ * $ + 1; } s = A[0] + A[1] + A[2] + A[3]; printf(\"%d\\n\", s); }";
+
+const NOT_THIN: &str = "xmt: p.xmtc:1:1: NotThin\n";
+
+const NO_JOB: &str = "xmt: words are no command; commands are cc, sim, run, asm, dis, ref, gen\n";
+
+// The words of a line, parted by single spaces; a word `''` is empty.
+fn words_of(alloc: Global, line: &str) -> Result<Vec<String>, Fail> {
+    let mut words = Vec::new(alloc);
+    for word in line.split(' ') {
+        let word = if word == "''" { "" } else { word };
+        words.push(String::from_str(alloc, word)?)?;
+    }
+    Ok(words)
+}
+
+// Runs words over a host with one file, of which the named call may fail.
+fn run(
+    rt: &HostRuntime,
+    words: &str,
+    source: &[u8],
+    failing: Option<(HostCall, u64)>,
+) -> Result<(u8, MemoryHost), Fail> {
+    let alloc = rt.alloc();
+    let mut list = Vec::new(alloc);
+    if let Some(call) = failing {
+        list.push(call)?;
+    }
+    let mut host = MemoryHost::new(alloc, list);
+    host.with_file("p.xmtc", Vec::from_slice(alloc, source)?)?;
+    let words = words_of(alloc, words)?;
+    let status = xmt(alloc, words.as_slice(), &mut host);
+    Ok((status.code, host))
+}
+
+// Source, code, output and error of runs of `p.xmtc`.
+#[test]
+fn sources_run(rt: HostRuntime) -> Result<(), Fail> {
+    let rows: [(&str, u8, &str, &str); 31] = [
+        (SQUARES, 0, "18\n", ""),
+        (
+            "int A[2]; main() { spawn(0, 2) { A[$] = 7; } }",
+            4,
+            "",
+            "xmt: trap Index line 1 thread 2\n",
+        ),
+        ("main() { printf(\"%d\\n\", 3 - 5); }", 0, "-2\n", ""),
+        ("main() { while (1) ; }", 1, "", NOT_THIN),
+        ("main(){}", 0, "", ""),
+        ("\t\r\n main ( ) { } ", 0, "", ""),
+        // an array of one, a spawn of no thread, of one, over the type's end
+        (
+            "int A[1]; main() { A[0] = 7; printf(\"%d\\n\", A[0]); }",
+            0,
+            "7\n",
+            "",
+        ),
+        (
+            "int x; main() { spawn(3, 2) { x = 1; } printf(\"%d\\n\", x); }",
+            0,
+            "0\n",
+            "",
+        ),
+        (
+            "int x; main() { spawn(5, 5) { x = $; } printf(\"%d\\n\", x); }",
+            0,
+            "5\n",
+            "",
+        ),
+        (
+            "int x; main() { spawn(0 - 2, 1) { x = x * 10 + $; } printf(\"%d\\n\", x); }",
+            0,
+            "-2099\n",
+            "",
+        ),
+        (
+            "int x; main() { spawn(2147483646, 2147483647) { x = x + $ - 2147483646; } printf(\"%d\\n\", x); }",
+            0,
+            "1\n",
+            "",
+        ),
+        // numbers wrap, and `*` binds before `-`, which groups to the left
+        (
+            "main() { printf(\"%d\\n\", 2147483647 + 1); }",
+            0,
+            "-2147483648\n",
+            "",
+        ),
+        ("main() { printf(\"%d\\n\", 65536 * 65536); }", 0, "0\n", ""),
+        (
+            "main() { printf(\"%d\\n\", 10 - 2 * 3 - 1); }",
+            0,
+            "3\n",
+            "",
+        ),
+        (
+            "main() { printf(\"%d\\n\", (10 - 2) * (3 - 1)); }",
+            0,
+            "16\n",
+            "",
+        ),
+        // what was printed before a trap stays; the trap has its own line
+        (
+            "int A[2];\nmain() {\nprintf(\"%d\\n\", 1);\nA[\n0 - 1] = 5;\n}",
+            4,
+            "1\n",
+            "xmt: trap Index line 4 serial\n",
+        ),
+        (
+            "int A[2]; main() { spawn(0 - 1, 1) { A[\n$] = 1; } }",
+            4,
+            "",
+            "xmt: trap Index line 1 thread -1\n",
+        ),
+        // the index is tested before the value is computed
+        (
+            "int A[1]; main() { A[1] = A[\n2]; }",
+            4,
+            "",
+            "xmt: trap Index line 1 serial\n",
+        ),
+        // what is not thin
+        ("", 1, "", NOT_THIN),
+        ("main() { x = 1; }", 1, "", NOT_THIN),
+        ("int x; int x; main() { }", 1, "", NOT_THIN),
+        ("int main; main() { }", 1, "", NOT_THIN),
+        ("int A[0]; main() { }", 1, "", NOT_THIN),
+        ("int A[2]; main() { A = 1; }", 1, "", NOT_THIN),
+        ("int x; main() { x[0] = 1; }", 1, "", NOT_THIN),
+        ("int x; main() { x = $; }", 1, "", NOT_THIN),
+        (
+            "main() { spawn(0, 1) { printf(\"%d\\n\", 1); } }",
+            1,
+            "",
+            NOT_THIN,
+        ),
+        ("main() { printf(\"%d\\n\", 2147483648); }", 1, "", NOT_THIN),
+        ("int A[1048577]; main() { }", 1, "", NOT_THIN),
+        ("int A[1048576]; main() { }", 0, "", ""),
+        ("main() { } // comment", 1, "", NOT_THIN),
+    ];
+    for (source, code, out, err) in rows {
+        let (found, host) = run(&rt, "run p.xmtc", source.as_bytes(), None)?;
+        assert_eq!(rt; found, code, "{source}");
+        assert!(rt; host.out.as_slice() == out.as_bytes(), "output of {source}");
+        assert!(rt; host.err.as_slice() == err.as_bytes(), "error of {source}");
+    }
+    Ok(())
+}
+
+// Words, failing call, code, output and error of runs of the squares.
+#[test]
+fn words_and_hosts_fail(rt: HostRuntime) -> Result<(), Fail> {
+    let rows: [(&str, Option<(HostCall, u64)>, u8, &str, &str); 12] = [
+        ("run p.xmtc", None, 0, "18\n", ""),
+        ("''", None, 2, "", NO_JOB),
+        ("run", None, 2, "", NO_JOB),
+        ("run a b", None, 2, "", NO_JOB),
+        ("run ''", None, 2, "", NO_JOB),
+        ("run -x", None, 2, "", NO_JOB),
+        ("cc p.xmtc", None, 2, "", NO_JOB),
+        ("run absent", None, 6, "", "xmt: host fault\n"),
+        (
+            "run p.xmtc",
+            Some((HostCall::Read, 0)),
+            6,
+            "",
+            "xmt: host fault\n",
+        ),
+        (
+            "run p.xmtc",
+            Some((HostCall::Print, 0)),
+            6,
+            "",
+            "xmt: host fault\n",
+        ),
+        ("run", Some((HostCall::Complain, 0)), 2, "", ""),
+        ("run absent", Some((HostCall::Complain, 0)), 6, "", ""),
+    ];
+    for (words, failing, code, out, err) in rows {
+        let (found, host) = run(&rt, words, SQUARES.as_bytes(), failing)?;
+        assert_eq!(rt; found, code, "{words}");
+        assert!(rt; host.out.as_slice() == out.as_bytes(), "output of {words}");
+        assert!(rt; host.err.as_slice() == err.as_bytes(), "error of {words}");
+    }
+    Ok(())
+}
+
+// A value with so many pairs of brackets around it.
+fn bracketed(alloc: Global, pairs: usize) -> Result<Vec<u8>, Fail> {
+    let mut source = Vec::from_slice(alloc, b"int x; main() { x = ")?;
+    for _ in 0..pairs {
+        source.push(b'(')?;
+    }
+    source.push(b'1')?;
+    for _ in 0..pairs {
+        source.push(b')')?;
+    }
+    source.extend_from_slice(b"; }")?;
+    Ok(source)
+}
+
+// `main(){}` with so many spaces behind it.
+fn spaced(alloc: Global, length: usize) -> Result<Vec<u8>, Fail> {
+    let mut source = Vec::from_slice(alloc, b"main(){}")?;
+    while source.len() < length {
+        source.push(b' ')?;
+    }
+    Ok(source)
+}
+
+#[test]
+fn limits_hold(rt: HostRuntime) -> Result<(), Fail> {
+    let alloc = rt.alloc();
+    for (pairs, code) in [(197, 0), (198, 1), (199, 1), (200, 1), (100_000, 1)] {
+        let source = bracketed(alloc, pairs)?;
+        let (found, _host) = run(&rt, "run p.xmtc", source.as_slice(), None)?;
+        assert_eq!(rt; found, code, "{pairs} pairs of brackets");
+    }
+    for (length, code) in [(1_048_576, 0), (1_048_577, 1)] {
+        let source = spaced(alloc, length)?;
+        let (found, _host) = run(&rt, "run p.xmtc", source.as_slice(), None)?;
+        assert_eq!(rt; found, code, "{length} bytes");
+    }
+    let odd: [&[u8]; 3] = [b"main(){}\0", b"main(){\xff}", b"\xc3\x28"];
+    for source in odd {
+        let (found, host) = run(&rt, "run p.xmtc", source, None)?;
+        assert_eq!(rt; found, 1);
+        assert!(rt; host.err.as_slice() == NOT_THIN.as_bytes());
+    }
+    Ok(())
+}
