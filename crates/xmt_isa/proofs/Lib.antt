@@ -1,1 +1,3 @@
 mod Operations
+pub mod Numbers
+pub mod Sound

@@ -2,9 +2,11 @@
 #![tactic(auto)]
 
 mod image;
+mod laws;
 mod operation;
 
 pub use image::{FunctionEntry, Image, Instr};
+pub use laws::valid_images_are_sound;
 pub use operation::{Location, Operation};
 
 #[cfg(test)]
