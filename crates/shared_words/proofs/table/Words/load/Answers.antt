@@ -1,0 +1,16 @@
+use Rattle.std.proofs.Common.{◌∙◌, ◌<◌, refl, sym, ap, subst}
+use Rattle.atomic_table.specs.Table.{step}
+use mathlib.Core.Option.{none}
+use lib.Seq.{set-get_or}
+use Rattle.shared_words.specs.declared.log.Action.TheVariants.{Load}
+use Rattle.shared_words.specs.Passes.{IsEnrolled}
+use Rattle.shared_words.proofs.Keeps.{accesses}
+use Rattle.shared_words.proofs.table.Words.load.Goals as goal
+
+pub load-requires : goal.load-requires
+load-requires c =
+    let own = ap (λ t. t.of) c.pass.view_is ∙ (c.requires.of ∙ sym c.self.view_is) in
+    let table = c.self.inside.table.shared in
+    let enrolled = subst IsEnrolled (sym (ap (λ t. t.known) c.pass.view_is)) c.requires.enrolled in
+    let within : c.args.at < table.table_id.words = rw c.self.view_is c.requires.inside.1 in
+    (own, within, accesses table.key.words.items table.table_id.slots c.pass.inside.seat.id c.args.at 0 c.pass.inside.seat.me Load (λ n. n) c.pass.invariant.whole enrolled c.requires.inside.0 (λ ws. sym (set-get_or ws c.args.at 0)) (step table.table_id.slots c.args.at 0 0 none) refl refl)

@@ -1,0 +1,8 @@
+use Rattle.std.proofs.Common.{◌≡◌, ℕ, ◌<◌, ◌≤◌, length, slice_index_or}
+use Rattle.shared_words.specs.declared.tests.Worker.{Worker}
+use Rattle.shared_words.specs.Workers.{HasWorked}
+use Rattle.shared_words.proofs.tests.take_in_each.Given as goal
+
+abbrev pub invariant-loop-worker : goal.invariant-loop-worker
+invariant-loop-worker l =
+    (l.pass.of ≡ l.words) × ((k : ℕ) (d : Worker) → l.worker-index ≤ k → k < length l.workers → HasWorked l.words (slice_index_or l.workers k d).pass)
