@@ -209,7 +209,7 @@ fn bracketed(alloc: Global, pairs: usize) -> Result<Vec<u8>, Fail> {
 // `main(){}` with so many spaces behind it.
 fn spaced(alloc: Global, length: usize) -> Result<Vec<u8>, Fail> {
     let mut source = Vec::from_slice(alloc, b"main(){}")?;
-    while source.len() < length {
+    for _ in source.len()..length {
         source.push(b' ')?;
     }
     Ok(source)
