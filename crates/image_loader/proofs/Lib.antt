@@ -1,0 +1,11 @@
+pub mod Fields
+pub mod Loop
+pub mod Pieces
+pub mod Records
+pub mod Elements
+pub mod Starts
+pub mod Blocks
+pub mod Table
+pub mod Parts
+pub mod Names
+pub mod Encoded

@@ -1,0 +1,10 @@
+use Rattle.std.proofs.Common.{◌≡◌, ◌++◌, All, take}
+use Rattle.std.specs.List.{flat_map}
+use Rattle.image_loader.specs.Layout.{number, IsWord}
+use Rattle.image_loader.proofs.writing.put_numbers.Given as goal
+
+abbrev pub invariant-loop-item : goal.invariant-loop-item
+invariant-loop-item l = record {
+  written : l.out.items ≡ l.initial.out.items ++ flat_map number (take l.item-index l.items);
+  fits : All IsWord (take l.item-index l.items);
+}
