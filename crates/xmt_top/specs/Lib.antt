@@ -1,5 +1,4 @@
 pub mod Complaints
 pub mod Messages
 pub mod Streams
-pub mod Tokens
 pub mod Words

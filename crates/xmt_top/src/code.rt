@@ -4,13 +4,12 @@ ghost use Rattle.std.specs.Prelude.{◌≤◌, ◌<◌, ◌↔◌, ◌^◌, All,
 ghost use Rattle.source_meaning.specs.Layout.{all_words, HasRoom};
 ghost use Rattle.xmt_isa.specs.Operation.{IsEncodable};
 
-use crate::reader::read_thin;
-use crate::source::{NOT_THIN, SourceRefusal};
 use source_meaning::{
     BinOp, Expr, ExprKind, GlobalVar, Program, Spot, Stmt, StmtKind, layout, opening,
 };
 use sqlite_items::Items;
 use std::alloc::{AllocError, Global};
+use thin_source::{NOT_THIN, SourceRefusal, read_thin};
 use xmt_base::Symbol;
 use xmt_isa::{FunctionEntry, Image, Instr, Location, Operation};
 

@@ -10,9 +10,9 @@ use crate::code::compile;
 use crate::messages::{HOST_FAULT, NO_JOB, NO_MEMORY, refusal_line, trap_line};
 use crate::print::complain_all;
 use crate::run::{RunEnd, run};
-use crate::source::SourceRefusal;
 use crate::words::job_of;
 use std::alloc::Global;
+use thin_source::SourceRefusal;
 use xmt_base::{Host, HostFault, TakeFault, Trap, take_file};
 
 /// How a job ended, as the exit status of the program.

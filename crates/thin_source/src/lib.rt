@@ -1,0 +1,15 @@
+//! Thin sources: globals, and a `main` of assignments and prints with at most one spawn, without
+//! branches, loops, calls and locals. A reader takes the bytes of one to its typed program.
+#![tactic(auto)]
+
+mod expressions;
+mod reader;
+mod scope;
+mod source;
+mod tokens;
+
+pub use reader::read_thin;
+pub use source::{NOT_THIN, SourceKind, SourceRefusal};
+
+#[cfg(test)]
+mod tests;
