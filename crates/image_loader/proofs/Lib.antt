@@ -9,3 +9,5 @@ pub mod Table
 pub mod Parts
 pub mod Names
 pub mod Encoded
+pub mod Functions
+pub mod Nesting

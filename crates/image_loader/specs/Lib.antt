@@ -1,5 +1,6 @@
 pub mod Header
 pub mod Layout
+pub mod Nesting
 pub mod Reading
 pub mod Ranges
 pub mod Blocks

@@ -15,10 +15,7 @@ mod texts;
 mod writing;
 
 pub use admission::{admit, load};
-pub use laws::{is_one_image, is_one_spelling};
+pub use laws::{is_one_image, is_one_spelling, valid_images_nest};
 pub use loaded::Loaded;
 pub use refusal::{LoadKind, LoadRefusal};
 pub use writing::encode;
-
-#[cfg(test)]
-mod tests;

@@ -10,7 +10,8 @@ use Rattle.source_meaning.specs.Next.{Ask, Quietly, Loading, Storing, Adding, Pr
 use Rattle.source_meaning.specs.Run.{next_of_rest, store_after}
 use Rattle.source_meaning.specs.Trace.{Local, action_of, next_reply, reply_to, step_with_reply, step_of, trace_then, and_then, local_run, trap_action as trap_of, HasTrace, main_in, block_of, serial_next, traces_in}
 use Rattle.interleaving.specs.Actors.{Acts, Entry, Does, DoesThen}
-use Rattle.source_log.specs.Log.{Log, IsLogged, actions_of, takes_reply, replies_of, trap_action}
+use Rattle.source_log.specs.Log.{Log, IsLogged, trap_action}
+use Rattle.interleaving.specs.Parts.{actions_of, takes_reply, replies_of}
 use Rattle.source_log.specs.FromLog.{Begins}
 use Rattle.source_log.specs.Threads.{Actor, next_of_actor, actor_after, own_reply, move_by, move_of, move, actor_of}
 

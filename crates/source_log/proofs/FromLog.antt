@@ -11,7 +11,9 @@ use Rattle.source_meaning.specs.Run.{Thread, Configuration, start, step, is_step
 use Rattle.source_meaning.specs.Trace.{action_of, main_of, traces_in}
 use Rattle.interleaving.specs.Actors.{part_of, Does, DoesThen, IsPrompt, turns_of, Leads, Interleaved}
 use Rattle.interleaving.proofs.Interleave.{interleaves}
-use Rattle.source_log.specs.Log.{Log, World, opening_world, AllEnded, MayGo, IsLawfulEntry, IsLawful, after_entry, after_log, actions_of, replies_of, start_of}
+use Rattle.source_log.specs.Log.{Log, World, opening_world, AllEnded, MayGo, IsLawfulEntry, IsLawful, after_entry, after_log}
+use Rattle.interleaving.specs.Starts.{start_of}
+use Rattle.interleaving.specs.Parts.{actions_of, replies_of}
 use Rattle.source_log.specs.Threads.{Actor, next_of_actor, own_reply, actor_after, move_by, move_of, move, main_actor, Keeps, ThreadsKeep, Made}
 use Rattle.source_log.specs.Standing.{cell_at, outermost_for, thread_of, StandsFor}
 use Rattle.source_log.specs.FromLog.{Begins, total, IsNumbered, DoTheirParts, IsScheduleOf, EachLogHasASchedule}
@@ -19,7 +21,7 @@ use Rattle.source_log.proofs.Fine.{threads_keep}
 use Rattle.source_log.proofs.Plain.{fine_program}
 use Rattle.source_log.proofs.Steps.{other_of_less, other_comm}
 use Rattle.source_log.proofs.Facts.{alone_step, act_step}
-use Rattle.source_log.proofs.Starts.{are_starts}
+use Rattle.interleaving.proofs.Starts.{are_starts}
 use Rattle.source_log.proofs.Prompt.{Run, done_is_run}
 use Rattle.source_log.proofs.ByItself.{IsAt, ByItself, by_itself}
 use Rattle.source_log.proofs.Prepared.{threads_grow_all, parts_plain, prepared}

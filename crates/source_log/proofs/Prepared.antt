@@ -9,7 +9,9 @@ use Rattle.source_meaning.specs.Next.{Ask, Quietly, Loading, Storing, Adding, Pr
 use Rattle.source_meaning.specs.Trace.{Local, main_of, block_of, spawn_of, IsSpawned, serial_next}
 use Rattle.interleaving.specs.Actors.{Move, Acts, Entry, part_of, Does, with_state, IsPrepared}
 use Rattle.interleaving.proofs.Interleave.{with_state-same, with_state-other, part_of-append, does_append, does_over, does_same}
-use Rattle.source_log.specs.Log.{Log, World, IsLogged, IsLawful, after_action, after_entry, after_log, reply_in, actions_of, takes_reply, replies_of, count_after, count_behind, AreStarts}
+use Rattle.source_log.specs.Log.{Log, World, IsLogged, IsLawful, after_action, after_entry, after_log, reply_in}
+use Rattle.interleaving.specs.Starts.{count_after, count_behind, AreStarts}
+use Rattle.interleaving.specs.Parts.{actions_of, takes_reply, replies_of}
 use Rattle.source_log.specs.Threads.{Actor, next_of_actor, actor_after, move_of, move, actor_of, main_actor, Keeps, BlockKeeps, ThreadsKeep, IsMade, Made}
 use Rattle.source_log.specs.FromLog.{Begins}
 use Rattle.source_log.proofs.ByItself.{ArePlain, run_is_done, snoc_same}

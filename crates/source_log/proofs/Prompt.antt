@@ -10,7 +10,8 @@ use Rattle.source_meaning.specs.Run.{next_of_rest, store_after}
 use Rattle.source_meaning.specs.Trace.{Local, action_of, next_reply, reply_to, step_with_reply, step_of, trace_then, and_then, local_run, main_in, main_of, traces_in}
 use Rattle.interleaving.specs.Actors.{Acts, Entry, Does, DoesThen, IsPrompt}
 use Rattle.interleaving.proofs.Interleave.{prompt_run}
-use Rattle.source_log.specs.Log.{Log, actions_of, takes_reply, replies_of}
+use Rattle.source_log.specs.Log.{Log}
+use Rattle.interleaving.specs.Parts.{actions_of, takes_reply, replies_of}
 use Rattle.source_log.specs.Threads.{Actor, actor_after, own_reply, move_by, move_of, move, actor_of, main_actor}
 use Rattle.source_log.proofs.ByItself.{ArePlain, ByItself, by_itself}
 

@@ -10,7 +10,8 @@ use Rattle.std.specs.Option.{option_map_or}
 use Rattle.source_meaning.specs.Run.{Thread, Configuration, start, step, can_step, waits_for, next_of, next_of_thread, next_of_rest, first_live, live_child, rising_from, rising_thread, rising}
 use Rattle.interleaving.specs.Actors.{Move, Rests, Alone, Acts, Entry, part_of, IsPrompt, with_state, IsLawfulBy, Leads, Interleaved}
 use Rattle.interleaving.proofs.Interleave.{with_state-same, with_state-other, interleaves}
-use Rattle.source_log.specs.Log.{Log, World, opening_world, AllEnded, MayGo, IsLawfulEntry, IsLawful, IsLogged, after_action, after_entry, after_log, start_of}
+use Rattle.source_log.specs.Log.{Log, World, opening_world, AllEnded, MayGo, IsLawfulEntry, IsLawful, IsLogged, after_action, after_entry, after_log}
+use Rattle.interleaving.specs.Starts.{start_of}
 use Rattle.source_log.specs.Threads.{Actor, next_of_actor, actor_after, move_of, move, MayAsk, IsKept, ThreadsKeep, Made}
 use Rattle.source_log.specs.Standing.{thread_of, StandsFor}
 use Rattle.source_log.specs.FromLog.{DoTheirParts, IsScheduleOf}
@@ -18,7 +19,7 @@ use Rattle.source_log.specs.Rising.{LowerEnded, IsRising, EachRisingLogHasTheRis
 use Rattle.source_log.proofs.Steps.{equal_of, positive_of, true-false}
 use Rattle.source_log.proofs.Facts.{none_waits, alone_step, act_step}
 use Rattle.source_log.proofs.Prepared.{spawn_is, prepared}
-use Rattle.source_log.proofs.Starts.{are_starts}
+use Rattle.interleaving.proofs.Starts.{are_starts}
 use Rattle.source_log.proofs.Joins.{JoinsNext, joins_rest}
 use Rattle.source_log.proofs.Fine.{threads_keep}
 use Rattle.source_log.proofs.Plain.{fine_program}

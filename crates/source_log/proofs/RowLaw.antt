@@ -15,7 +15,8 @@ use Rattle.std.specs.Fmt.{digits}
 use Rattle.source_meaning.specs.Opened.{opened}
 use Rattle.source_meaning.proofs.Written.{s, number}
 use Rattle.interleaving.specs.Actors.{part_of}
-use Rattle.source_log.specs.Log.{actions_of, replies_of, start_of}
+use Rattle.interleaving.specs.Starts.{start_of}
+use Rattle.interleaving.specs.Parts.{actions_of, replies_of}
 use Rattle.source_log.specs.Checked.{ListBlocksAre, IsPlainBlock, IsPlain}
 use Rattle.source_log.specs.FromLog.{DoTheirParts, IsScheduleOf}
 use Rattle.source_log.proofs.FromLog.{each_log_has_a_schedule}

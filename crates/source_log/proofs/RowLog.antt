@@ -12,7 +12,8 @@ use Rattle.source_meaning.proofs.Written.{s, number, read, function, program_of}
 use Rattle.std.specs.Fmt.{digits}
 use Rattle.source_meaning.specs.Opened.{opened}
 use Rattle.interleaving.specs.Actors.{Entry, part_of}
-use Rattle.source_log.specs.Log.{Log, opening_world, IsLawful, after_log, actions_of, replies_of}
+use Rattle.source_log.specs.Log.{Log, opening_world, IsLawful, after_log}
+use Rattle.interleaving.specs.Parts.{actions_of, replies_of}
 
 unfoldable pub main : Function
 main =

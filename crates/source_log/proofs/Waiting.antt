@@ -5,10 +5,12 @@ use Rattle.xmt_base.specs.Action.{Main}
 use Rattle.source_meaning.specs.declared.tree.Program.{Program}
 use Rattle.source_meaning.specs.Trace.{traces_in}
 use Rattle.interleaving.specs.Actors.{part_of}
-use Rattle.source_log.specs.Log.{Log, opening_world, world_of, AllEnded, IsLawful, actions_of, replies_of, trap_action, start_of}
+use Rattle.source_log.specs.Log.{Log, opening_world, world_of, AllEnded, IsLawful, trap_action}
+use Rattle.interleaving.specs.Starts.{start_of}
+use Rattle.interleaving.specs.Parts.{actions_of, replies_of}
 use Rattle.source_log.specs.FromLog.{DoTheirParts}
 use Rattle.source_log.proofs.Prepared.{parts_plain}
-use Rattle.source_log.proofs.Starts.{are_starts}
+use Rattle.interleaving.proofs.Starts.{are_starts}
 use Rattle.source_log.proofs.FromLog.{some_threads_of}
 use Rattle.source_log.proofs.Prompt.{prompt_trace}
 

@@ -7,7 +7,9 @@ use Rattle.source_meaning.specs.Run.{Thread, Configuration, start, after, IsLega
 use Rattle.source_meaning.specs.Term.{Code}
 use Rattle.source_meaning.specs.Trace.{Local, local_run, main_in, main_of, block_of, spawn_of, IsSpawned, serial_next, traces_in}
 use Rattle.interleaving.specs.Actors.{part_of, Does, turns_of}
-use Rattle.source_log.specs.Log.{Log, opening_world, world_of, AllEnded, IsLawful, actions_of, replies_of, trap_action, start_of}
+use Rattle.source_log.specs.Log.{Log, opening_world, world_of, AllEnded, IsLawful, trap_action}
+use Rattle.interleaving.specs.Starts.{start_of}
+use Rattle.interleaving.specs.Parts.{actions_of, replies_of}
 use Rattle.source_log.specs.Threads.{Actor, actor_of, move}
 use Rattle.source_log.specs.Standing.{cell_at, thread_of}
 use Rattle.source_log.specs.Checked.{IsPlain}

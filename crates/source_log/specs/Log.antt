@@ -1,10 +1,10 @@
 -- The log of a run: all that its threads did that others can see, in the order in which it happened, with the reply to each.
-use Rattle.std.specs.Prelude.{◌≡◌, ℕ, ◌+◌, ◌-◌, ◌%◌, ◌^◌, ◌<◌, ◌==◌, nat_lt, nat_le, Bool, true, false, ◌&&◌, if◌then◌else◌, List, [], ◌∷◌, ◌++◌, slice_index, map, Option, Some, None}
+use Rattle.std.specs.Prelude.{◌≡◌, ℕ, ◌+◌, ◌%◌, ◌^◌, ◌<◌, ◌==◌, Bool, true, false, ◌&&◌, if◌then◌else◌, List, [], ◌∷◌, ◌++◌, slice_index, map, Option, Some, None}
 use Rattle.xmt_base.specs.declared.values.TrapKind.{TrapKind}
-use Rattle.xmt_base.specs.Action.{Shared, Word, Register, Outer, Action, Load, Store, Add, Print, Spawn, Trap, Ended, Start, Main, Block}
+use Rattle.xmt_base.specs.Action.{Shared, Word, Register, Outer, Action, Load, Store, Add, Print, Spawn, Trap, Ended}
 use Rattle.source_meaning.specs.declared.tree.Program.{Program}
 use Rattle.xmt_base.specs.Operators.{count_between}
-use Rattle.interleaving.specs.Actors.{Entry, part_of, world_after, IsLawfulBy}
+use Rattle.interleaving.specs.Actors.{Entry, world_after, IsLawfulBy}
 
 -- Thread 0 is the serial code. The first new thread of a spawn has as its number how many threads there are so far, and its thread k the number k more than that.
 abbrev pub Log : Type 0
@@ -83,56 +83,7 @@ after_log = world_after after_entry
 abbrev pub world_of : Program → (words : List ℕ) → Log → World
 world_of program words log = after_log (opening_world program words) log
 
--- ---- a thread's part
-
-abbrev pub actions_of : Log → List Action
-actions_of [] = []
-actions_of (e ∷ part) = e.action ∷ actions_of part
-
-abbrev pub takes_reply : Action → Bool
-takes_reply (Load place) = true
-takes_reply (Add place value) = true
-takes_reply _ = false
-
--- the replies that a thread takes by itself
-abbrev pub replies_of : Log → List ℕ
-replies_of [] = []
-replies_of (e ∷ part) = if takes_reply e.action then e.reply ∷ replies_of part else replies_of part
-
--- how many threads there are behind an action, and behind a log
-abbrev pub count_after : (count : ℕ) → Action → ℕ
-count_after count (Spawn site low high) = count + count_between low high
-count_after count _ = count
-
-abbrev pub count_behind : (count : ℕ) → Log → ℕ
-count_behind count [] = count
-count_behind count (e ∷ log) = count_behind (count_after count e.action) log
-
--- where each thread begins: thread 0 at `main`, and the threads of a spawn at its block, behind what the serial code did before
-pub record AreStarts (log : Log) (start : ℕ → Start) : Type 0 where
-  pub serial : start 0 ≡ Main
-  pub virtual :
-      (before after : Log) (site low high reply k : ℕ) →
-      log ≡ before ++ (record { actor = 0; action = Spawn site low high; reply = reply } ∷ after) → k < count_between low high →
-      start (count_behind 1 before + k) ≡ Block (actions_of (part_of 0 before) ++ (Spawn site low high ∷ [])) (replies_of (part_of 0 before)) ((low + k) % 2 ^ 32)
-
 -- where a thread stands, if that is a trap, as the last of its trace
 abbrev pub trap_action : Option (TrapKind × ℕ) → List Action
 trap_action None = []
 trap_action (Some trap) = Trap trap.0 trap.1 ∷ []
-
--- where a thread begins, if this action makes it, with so many threads before
-abbrev pub start_at : (before : Log) → Action → (count : ℕ) → (otherwise : Start) → (thread : ℕ) → Start
-start_at before (Spawn site low high) count otherwise thread =
-    if nat_le count thread && nat_lt thread (count + count_between low high)
-    then Block (actions_of (part_of 0 before) ++ (Spawn site low high ∷ [])) (replies_of (part_of 0 before)) ((low + (thread - count)) % 2 ^ 32)
-    else otherwise
-start_at before _ count otherwise thread = otherwise
-
-abbrev pub start_behind : (before : Log) → (count : ℕ) → Log → (thread : ℕ) → Start
-start_behind before count [] thread = Main
-start_behind before count (e ∷ log) thread = start_at before e.action count (start_behind (before ++ (e ∷ [])) (count_after count e.action) log thread) thread
-
--- where each thread of a log begins
-abbrev pub start_of : Log → (thread : ℕ) → Start
-start_of log = start_behind [] 1 log

@@ -1,8 +1,16 @@
 pub mod Flow
 pub mod Image
+pub mod Legal
+pub mod Machine
+pub mod Opening
 pub mod Operation
+pub mod Picked
+pub mod Places
 pub mod Regions
 pub mod Registers
+pub mod Step
 pub mod Symbols
 pub mod Targets
+pub mod Threads
+pub mod Traces
 pub mod Valid

@@ -1,0 +1,60 @@
+-- How far a picked run has come, and how it ends.
+use Rattle.std.specs.Prelude.{◌≡◌, ℕ, List, take, drop, length}
+use Rattle.std.specs.declared.option.Option.{Option}
+use Rattle.xmt_isa.specs.declared.image.Image.{Image}
+use Rattle.xmt_isa.specs.declared.run.Choice.{Choice}
+use Rattle.xmt_isa.specs.declared.run.Choice.TheVariants as choice
+use Rattle.xmt_isa.specs.declared.run.SimEnd.{SimEnd}
+use Rattle.xmt_isa.specs.declared.run.SimEnd.TheVariants.{Done, Trap, Spent, WriteFault, NoMemory}
+use Rattle.xmt_isa.specs.Machine as spec
+use Rattle.xmt_isa.specs.Legal.{RunsTo}
+use Rattle.xmt_isa.specs.Picked.{PickedRun, picked, choice_of}
+use Rattle.machine_core.specs.declared.machine.Machine.{Machine}
+use Rattle.machine_core.specs.Steps.{IsWithin}
+use Rattle.machine_core.specs.View.{machine_of, run_of}
+use Rattle.machine_core.specs.Prints.{Prints, PrintsPart}
+
+-- after so many choices the picked run has come to this machine and generator, and what it printed went to the host
+pub record HasCome (image : Image) (budget : ℕ) (begin : PickedRun) (machine : Machine) (state : ℕ) (before now : Option (List ℕ)) : Type 0 where
+  pub choices : ℕ
+  pub out : List ℕ
+  pub same : picked image budget begin choices ≡ run_of machine out state
+  pub legal : RunsTo image begin.machine (machine_of machine out)
+  pub printed : Prints out before now
+
+-- the picked run has ended so, with this machine, and what it printed went to the host
+pub record HasEnded (image : Image) (budget : ℕ) (begin : PickedRun) (end : Choice) (machine : Machine) (before now : Option (List ℕ)) : Type 0 where
+  pub choices : ℕ
+  pub out : List ℕ
+  pub ended : choice_of image budget (picked image budget begin choices) ≡ end
+  pub same : (picked image budget begin choices).machine ≡ machine_of machine out
+  pub legal : RunsTo image begin.machine (machine_of machine out)
+  pub within : IsWithin budget machine.units.items
+  pub printed : Prints out before now
+
+-- a prefix of what the picked run prints went to the host
+abbrev pub PrintsPicked : Image → ℕ → PickedRun → Option (List ℕ) → Option (List ℕ) → Type 0
+PrintsPicked image budget begin before now = (choices : ℕ) × PrintsPart (picked image budget begin choices).machine.out before now
+
+-- the data words of a table of words
+abbrev pub data_words : Image → List ℕ → List ℕ
+data_words image words = take (length image.words) (drop 12 words)
+
+-- after so many choices the picked run ends so with this machine, to which a legal schedule leads, with no unit past the
+-- budget, and what it printed went to the host
+pub record EndsAs (image : Image) (budget : ℕ) (begin : PickedRun) (end : Choice) (machine : spec.Machine) (before now : Option (List ℕ)) : Type 0 where
+  pub choices : ℕ
+  pub reaches : (picked image budget begin choices).machine ≡ machine
+  pub legal : RunsTo image begin.machine machine
+  pub within : IsWithin budget machine.units
+  pub ends : choice_of image budget (picked image budget begin choices) ≡ end
+  pub printed : Prints machine.out before now
+
+-- what an end says of the picked run
+abbrev pub Ends : Image → ℕ → PickedRun → Option (List ℕ) → Option (List ℕ) → SimEnd → Type 0
+Ends image budget begin before now (Done memory) =
+    (machine : spec.Machine) × EndsAs image budget begin choice.Done machine before now × (memory.words ≡ data_words image machine.words)
+Ends image budget begin before now (Trap trap) = (machine : spec.Machine) × EndsAs image budget begin (choice.Trap trap) machine before now
+Ends image budget begin before now (Spent unit steps) = (machine : spec.Machine) × EndsAs image budget begin (choice.Spent unit steps) machine before now
+Ends image budget begin before now WriteFault = PrintsPicked image budget begin before now
+Ends image budget begin before now NoMemory = PrintsPicked image budget begin before now

@@ -1,0 +1,5 @@
+pub mod Shared
+pub mod Cells
+pub mod Opening
+pub mod Parts
+pub mod Schedules
