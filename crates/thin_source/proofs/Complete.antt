@@ -68,7 +68,7 @@ sum_stops [] h depth operand = tt
 sum_stops (t ∷ ts) h depth operand = no_sum t.kind h
 
 -- a scalar may not go on with an index
-abbrev Closed : Tokens → Type 0
+abbrev pub Closed : Tokens → Type 0
 Closed [] = Unit {0}
 Closed (t ∷ ts) = is_the m.OpenSquare t.kind ≡ false
 
@@ -125,7 +125,7 @@ module _ (c : Context) where
   inside a n x some reads (suc d) r h stops = full Sum a n x reads d r h stops
 
   -- what the law says of a spot: a name, and what is read behind it
-  abbrev SpotReads : Spot → Place → ℕ → Tokens → Type 0
+  abbrev pub SpotReads : Spot → Place → ℕ → Tokens → Type 0
   SpotReads s p n x =
       (t : Token) × (y : Tokens) × (x ≡ t ∷ y) × (t.kind ≡ kind.Name) × (t.place ≡ p)
       × ((d : ℕ) (r : Tokens) → n ≤ d → Closed r → read_spot c (expression c d) t (y ++ r) ≡ got_spot s n r)
@@ -180,7 +180,7 @@ module _ (c : Context) where
       ∙ chain_turn (suc d) sum_op (read_operand c d rank.Sum) (suc d) t o a b i j (y ++ r) r is (full Product b j y right d r (omega arith) stops) (omega arith) (omega arith)
 
   mutual
-    reads_spot : {s : Spot} {p : Place} {n nodes : ℕ} {x : Tokens} → SpellsSpot c n nodes s p x → SpotReads s p n x
+    pub reads_spot : {s : Spot} {p : Place} {n nodes : ℕ} {x : Tokens} → SpellsSpot c n nodes s p x → SpotReads s p n x
     reads_spot (scalar t {number = i} k g) = (t, [], refl, k, refl, λ d r h stops. spot_scalar (expression c d) t i r g stops)
     reads_spot (element t o u {number = i} {n = n} {index = a} {x = x} k g ko h ku) = (
       t,

@@ -1,7 +1,14 @@
 pub mod Chain
 pub mod Complete
-pub mod Laws
+pub mod Declarations
+pub mod Loops
+pub mod Nodes
 pub mod Numbers
+pub mod OneList
+pub mod ReadingLaws
 pub mod Scan
 pub mod Sound
+pub mod Spelled
+pub mod Taken
 pub mod Turns
+pub mod Whole

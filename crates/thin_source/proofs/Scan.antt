@@ -115,7 +115,7 @@ has_byte [] h = absurd (cc)
 has_byte (b ∷ bs) h = omega arith
 
 -- a longest spelling is as long as the longest
-longest_of : (w z : Text) → IsLongest w z → longest (w ++ z) ≡ length w
+pub longest_of : (w z : Text) → IsLongest w z → longest (w ++ z) ≡ length w
 longest_of w z (is, no_longer) =
     let n = longest (w ++ z) in
     let at_least : length w ≤ longest (w ++ z) = spelled_fits w z is in
@@ -150,7 +150,7 @@ blanks false false true r b bs _ _ is _ h = blank_at 10 b bs is refl
 blanks false false false true b bs _ _ _ is h = blank_at 13 b bs is refl
 blanks false false false false b bs _ _ _ _ h = absurd (cc)
 
-blank_not_spelled : (b : ℕ) (bs : Text) → is_blank b ≡ true → is_spelling (b ∷ bs) ≡ false
+pub blank_not_spelled : (b : ℕ) (bs : Text) → is_blank b ≡ true → is_spelling (b ∷ bs) ≡ false
 blank_not_spelled b bs h = blanks (b == 32) (b == 9) (b == 10) (b == 13) b bs refl refl refl refl h
 
 -- ---- one step

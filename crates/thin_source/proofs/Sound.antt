@@ -48,11 +48,11 @@ the_mark mark _ h = absurd (cc)
 
 -- ---- taking a choice apart
 
-chosen : {A : Type 0} (b : Bool) (x y z : A) → cond b x y ≡ z → ((b ≡ true) × (x ≡ z)) ⊎ ((b ≡ false) × (y ≡ z))
+pub chosen : {A : Type 0} (b : Bool) (x y z : A) → cond b x y ≡ z → ((b ≡ true) × (x ≡ z)) ⊎ ((b ≡ false) × (y ≡ z))
 chosen true x y z h = inl (refl, h)
 chosen false x y z h = inr (refl, h)
 
-if_some : {A : Type 0} (b : Bool) (x : Option A) (z : A) → cond b x None ≡ Some z → (b ≡ true) × (x ≡ Some z)
+pub if_some : {A : Type 0} (b : Bool) (x : Option A) (z : A) → cond b x None ≡ Some z → (b ≡ true) × (x ≡ Some z)
 if_some true x z h = (refl, h)
 if_some false x z h = absurd (cc)
 
@@ -63,7 +63,7 @@ unsome : {A : Type 0} → Option A → A → A
 unsome None g = g
 unsome (Some g) h = g
 
-same_some : {A : Type 0} (g h : A) → Some g ≡ Some h → g ≡ h
+pub same_some : {A : Type 0} (g h : A) → Some g ≡ Some h → g ≡ h
 unfolding unsome
 same_some g h is = ap (λ (o : Option _). unsome o g) is
 
@@ -72,7 +72,7 @@ fits_true true x g h = (refl, h)
 fits_true false x g h = absurd (cc)
 
 -- what stands behind a mark
-behind_some : (mark : Mark) (ts us : Tokens) → behind_mark mark ts ≡ Some us → (t : Token) × (ts ≡ t ∷ us) × (t.kind ≡ kind.Mark mark)
+pub behind_some : (mark : Mark) (ts us : Tokens) → behind_mark mark ts ≡ Some us → (t : Token) × (ts ≡ t ∷ us) × (t.kind ≡ kind.Mark mark)
 behind_some mark [] us h = absurd (cc)
 behind_some mark (t ∷ ts) us h =
     let choice = if_some (is_the mark t.kind) (Some ts) us h in

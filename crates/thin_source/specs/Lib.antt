@@ -1,4 +1,5 @@
 pub mod Answers
+pub mod Bodies
 pub mod Grammar
 pub mod Law
 pub mod Longest

@@ -32,6 +32,11 @@ pub record Got : Type 0 where
 abbrev pub Reader : Type 0
 Reader = Tokens → Option Got
 
+-- goes on where something was read
+abbrev pub after : {A B : Type 0} → Option A → (A → Option B) → Option B
+after None further = None
+after (Some a) further = further a
+
 abbrev pub got : Expr → ℕ → Tokens → Option Got
 got a n ts = Some (record { tree = a; nest = n; rest = ts })
 
@@ -181,19 +186,20 @@ read_rank c d q = ranked c (suc d) (expression c d) q
 abbrev pub view : Read → Got
 view r = record { tree = r.tree; nest = r.nest; rest = r.rest.now }
 
--- the result is what reading gives, unless memory ran out
+-- the result, seen in this way, is what reading gives, unless memory ran out
+abbrev pub GivesAs : {R A : Type 0} → (R → A) → Result R SourceRefusal → Option A → Type 0
+GivesAs seen (Ok r) expected = expected ≡ Some (seen r)
+GivesAs seen (Err (Refused kind place)) expected = (place ≡ first_place) × (expected ≡ None)
+GivesAs seen (Err NoMemory) expected = Unit {0}
+
 abbrev pub Gives : Result Read SourceRefusal → Option Got → Type 0
-Gives (Ok r) expected = expected ≡ Some (view r)
-Gives (Err (Refused kind place)) expected = (place ≡ first_place) × (expected ≡ None)
-Gives (Err NoMemory) expected = Unit {0}
+Gives = GivesAs view
 
 abbrev pub view_spot : ReadSpot → GotSpot
 view_spot r = record { spot = r.spot; nest = r.nest; rest = r.rest.now }
 
 abbrev pub GivesSpot : Result ReadSpot SourceRefusal → Option GotSpot → Type 0
-GivesSpot (Ok r) expected = expected ≡ Some (view_spot r)
-GivesSpot (Err (Refused kind place)) expected = (place ≡ first_place) × (expected ≡ None)
-GivesSpot (Err NoMemory) expected = Unit {0}
+GivesSpot = GivesAs view_spot
 
 -- an operator between a tree and what was read behind it
 abbrev pub joined : BinOp → Expr → ℕ → Got → Got

@@ -1,5 +1,6 @@
 -- Thin sources, and the program of each.
-use Rattle.std.specs.Prelude.{◌≡◌, ◌≢◌, ℕ, ◌+◌, ◌≤◌, ◌<◌, ◌^◌, true, List, [], ◌∷◌, length, slice_get, Some, codes}
+use Rattle.std.specs.Prelude.{◌≡◌, ◌≢◌, ℕ, ◌+◌, ◌≤◌, ◌^◌, true, List, [], ◌∷◌, length, codes}
+use Rattle.std.specs.List.{AllPairs}
 use Rattle.source_meaning.specs.declared.tree.GlobalVar.{GlobalVar}
 use Rattle.source_meaning.specs.declared.tree.Program.{Program}
 use Rattle.source_meaning.specs.declared.tree.Stmt.{Stmt}
@@ -20,7 +21,7 @@ main_program globals body =
 
 -- no two globals have one name
 abbrev pub NamesDiffer : List GlobalVar → Type 0
-NamesDiffer globals = (i j : ℕ) (a b : GlobalVar) → i < j → slice_get globals i ≡ Some a → slice_get globals j ≡ Some b → a.name ≢ b.name
+NamesDiffer globals = AllPairs (λ a b. a.name ≢ b.name) globals
 
 -- The source is thin, and this is its program: at most 2^20 bytes, globals of different names with at most 2^20 words,
 -- nesting of at most 200, and at most 65536 nodes, each global and `main` among them.
@@ -40,3 +41,11 @@ pub record IsThin (source : Text) (program : Program) : Type 0 where
   pub few_words : all_words globals ≤ 2 ^ 20
   pub shallow : nesting ≤ 200
   pub few_nodes : nodes + length globals + 1 ≤ 65536
+
+-- no program is one of the source
+abbrev pub HasNoProgram : Text → Type 0
+HasNoProgram source = (program : Program) → ¬ IsThin source program
+
+-- one source has at most one program
+abbrev pub OneProgram : Type 0
+OneProgram = (source : Text) (p q : Program) → IsThin source p → IsThin source q → p ≡ q

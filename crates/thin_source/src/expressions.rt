@@ -13,26 +13,24 @@ use sqlite_items::Boxed;
 use std::alloc::Global;
 use xmt_base::Place;
 
-/// An expression, its nesting with its brackets, how many nodes it has, and the tokens behind it.
+/// An expression, its nesting with its brackets, and the tokens behind it.
 #[derive(Drop)]
 pub(crate) struct Read<'a> {
     pub tree: Expr,
     pub nest: u32,
-    pub nodes: u32,
     pub rest: &'a [Token],
 }
 
-/// A spot, the nesting of its index, how many nodes that has, and the tokens behind it.
+/// A spot, the nesting of its index, and the tokens behind it.
 #[derive(Drop)]
 pub(crate) struct ReadSpot<'a> {
     pub spot: Spot,
     pub nest: u32,
-    pub nodes: u32,
     pub rest: &'a [Token],
 }
 
-// The first token and those behind it.
-fn cut(tokens: &[Token]) -> Option<(Token, &[Token])>
+/// The first token and those behind it.
+pub(crate) fn cut(tokens: &[Token]) -> Option<(Token, &[Token])>
     ensures { MatchOption result (tokens.now ≡ []) (λ pair. tokens.now ≡ pair.0 ∷ pair.1.now) }
 {
     match tokens {
@@ -49,12 +47,11 @@ fn is_the(kind: TokenKind, mark: Mark) -> bool
 }
 
 /// The tokens behind one that is this mark.
-pub(crate) fn behind_mark<'a>(
-    tokens: &'a [Token],
-    mark: Mark,
-) -> Result<&'a [Token], SourceRefusal> {
+pub(crate) fn behind_mark(tokens: &[Token], mark: Mark) -> Result<&[Token], SourceRefusal>
+    ensures { spec.GivesAs (λ rest. rest.now) result (spec.behind_mark mark tokens.now) }
+{
     match tokens {
-        [token, rest @ ..] if token.kind == TokenKind::Mark(mark) => Ok(rest),
+        [token, rest @ ..] if is_the(token.kind, mark) => Ok(rest),
         _ => Err(NOT_THIN),
     }
 }
@@ -67,7 +64,6 @@ fn leaf<'a>(at: Place, kind: ExprKind, rest: &'a [Token]) -> Read<'a>
     Read {
         tree: Expr { at, kind },
         nest: 1,
-        nodes: 1,
         rest,
     }
 }
@@ -78,17 +74,11 @@ fn bracketed(inner: Read<'_>) -> Result<Read<'_>, SourceRefusal>
     ensures value { spec.Gives result (spec.bracketed (spec.view inner.entry)) }
     ensures nest { IfOk result (λ read. read.nest ≤ inner.entry.nest + 1) }
 {
-    let Read {
-        tree,
-        nest,
-        nodes,
-        rest,
-    } = inner;
+    let Read { tree, nest, rest } = inner;
     match rest {
         [close, behind @ ..] if is_the(close.kind, Mark::CloseRound) => Ok(Read {
             tree,
             nest: nest + 1,
-            nodes,
             rest: behind,
         }),
         _ => Err(NOT_THIN),
@@ -100,19 +90,13 @@ fn indexed<'a>(alloc: Global, global: u32, inner: Read<'a>) -> Result<ReadSpot<'
     ensures value { spec.GivesSpot result (spec.indexed global (spec.view inner.entry)) }
     ensures nest { IfOk result (λ read. read.nest ≤ inner.entry.nest) }
 {
-    let Read {
-        tree,
-        nest,
-        nodes,
-        rest,
-    } = inner;
+    let Read { tree, nest, rest } = inner;
     match rest {
         [close, behind @ ..] if is_the(close.kind, Mark::CloseSquare) => {
             let index = Boxed::new(alloc, tree)?;
             Ok(ReadSpot {
                 spot: Spot::Element(global, index),
                 nest,
-                nodes,
                 rest: behind,
             })
         }
@@ -126,19 +110,13 @@ fn value_of(at: Place, spot: ReadSpot<'_>) -> Read<'_>
     ensures value { spec.valued at (Some (spec.view_spot spot.entry)) ≡ Some (spec.view result) }
     ensures nest { result.nest ≤ spot.entry.nest + 1 }
 {
-    let ReadSpot {
-        spot,
-        nest,
-        nodes,
-        rest,
-    } = spot;
+    let ReadSpot { spot, nest, rest } = spot;
     Read {
         tree: Expr {
             at,
             kind: ExprKind::Read(spot),
         },
         nest: nest + 1,
-        nodes: nodes.saturating_add(1),
         rest,
     }
 }
@@ -159,13 +137,11 @@ fn joined<'a>(
     let Read {
         tree: first,
         nest,
-        nodes,
         ..
     } = left;
     let Read {
         tree: second,
         nest: other,
-        nodes: others,
         rest,
     } = right;
     let at = first.at;
@@ -177,7 +153,6 @@ fn joined<'a>(
             kind: ExprKind::Binary(op, first, second),
         },
         nest: nest.max(other) + 1,
-        nodes: nodes.saturating_add(others).saturating_add(1),
         rest,
     })
 }
@@ -260,7 +235,6 @@ fn scalar<'a>(
         Ok(global) => Ok(ReadSpot {
             spot: Spot::Global(global),
             nest: 0,
-            nodes: 0,
             rest: tokens,
         }),
     }

@@ -3,11 +3,15 @@
 #![tactic(auto)]
 
 mod expressions;
+mod globals;
+mod laws;
 mod reader;
 mod scope;
 mod source;
+mod statements;
 mod tokens;
 
+pub use laws::laws_of_sources;
 pub use reader::read_thin;
 pub use source::{NOT_THIN, SourceKind, SourceRefusal};
 

@@ -1,4 +1,4 @@
-use Rattle.thin_source.proofs.Laws.{law_sound, law_complete, law_none}
+use Rattle.thin_source.proofs.ReadingLaws.{law_sound, law_complete, law_none}
 use Rattle.thin_source.specs.Reading.{context}
 use Rattle.thin_source.proofs.expressions.expression.Goals as goal
 
