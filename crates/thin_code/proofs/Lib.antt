@@ -1,0 +1,15 @@
+pub mod Heights
+pub mod Inside
+pub mod Keeps
+pub mod KeptStatements
+pub mod Plain
+pub mod Points
+pub mod Rows
+pub mod Sites
+pub mod Steps
+pub mod Symbols
+pub mod Threads
+pub mod Trees
+pub mod Units
+pub mod Values
+pub mod Whole

@@ -1,0 +1,5 @@
+pub mod Code
+pub mod Emitted
+pub mod Image
+pub mod Laws
+pub mod Thin
