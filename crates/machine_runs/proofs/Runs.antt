@@ -190,6 +190,44 @@ module _ (image : Image) (master : Unit) (rest : List Unit) (drawn : ℕ) (start
           let found = not_all (λ (u : Unit). is_stopped u.state) rest (waiting.some (omega (arith, some))) in
           by_unit waiting found.0 found.1 found.2 found.3 found.1.state refl (waiting.section.units found.0 found.1 found.2)
 
+  serial_here : master.waits ≡ false → AllEnded threads ended
+  serial_here off = elim st.phase [ inl serial ↦ serial.all_ended | inr waiting ↦ never_true (sym waiting.waits ∙ off) ]
+
+  runs_here : master.waits ≡ true → (place : ℕ) (u : Unit) → slice_get rest place ≡ Some u → u.state ≡ Runs →
+      (0 < p.runner place) × (p.runner place < threads) × (ended (p.runner place) ≡ false) × (p.ends (p.runner place) ≡ record { start = start; unit = u })
+      × (length (master ∷ rest) ≡ 2 → LowerEnded ended (p.runner place))
+  runs_here waits place u at runs = by_phase st.phase
+    where
+      Runner : Type 0
+      Runner =
+          (0 < p.runner place) × (p.runner place < threads) × (ended (p.runner place) ≡ false) × (p.ends (p.runner place) ≡ record { start = start; unit = u })
+          × (length (master ∷ rest) ≡ 2 → LowerEnded ended (p.runner place))
+
+      by_phase : IsSerial master start threads ended p ⊎ IsWaiting image master rest drawn start threads ended p → Runner
+      by_phase (inl serial) = never_true (sym waits ∙ serial.goes)
+      by_phase (inr waiting) =
+          let h : StandsBy start drawn waiting.first ended p place u Runs = subst (λ state. StandsBy start drawn waiting.first ended p place u state) runs (waiting.section.units place u at) in
+          let positive : 0 < waiting.first = waiting.section.positive in
+          let all : waiting.first + start.count ≡ threads = waiting.section.all in
+          let within : h.0 < start.count = h.2 in
+          let below : h.0 < drawn = h.1 in
+          let here : p.runner place ≡ waiting.first + h.0 = h.3 in (
+            omega (arith, here, positive),
+            omega (arith, here, all, within),
+            ap ended here ∙ h.5,
+            ap p.ends here ∙ h.6,
+            λ two. subst (λ t. LowerEnded ended t) (sym here) (lower_of waiting (omega arith) h.0 below within),
+          )
+        where
+          lower_of : (waiting : IsWaiting image master rest drawn start threads ended p) → length rest ≡ 1 → (k : ℕ) → k < drawn → k < start.count → LowerEnded ended (waiting.first + k)
+          lower_of waiting one k below inside =
+              section_lower image rest drawn start threads ended p waiting.first waiting.section k (omega (arith, below)) (omega (arith, inside))
+              (λ j before r.
+              let run = run_by_one rest p (waiting.first + j) one r in
+              let last : 1 + p.runner 0 ≡ waiting.first + drawn = waiting.section.last one r.0 run.0 r.2 in
+              let here : p.runner 0 ≡ waiting.first + j = run.1 in
+              omega (arith, last, here, before, below))
+
   waits_here : master.waits ≡ true → p.ends 0 ≡ record { start = start; unit = resumes image start master }
   waits_here is = elim st.phase [ inl serial ↦ never_true (sym is ∙ serial.goes) | inr waiting ↦ waiting.stands ]
 
@@ -202,9 +240,6 @@ module _ (image : Image) (master : Unit) (rest : List Unit) (drawn : ℕ) (start
         | inr h ↦ ((λ halted. h.1), (λ over. h.0))
       ]
       by_phase (inr waiting) = ((λ halted. absurd (at_zero master.state waiting.runs halted)), (λ over. never_true (sym over ∙ waiting.unended)))
-
-  serial_here : master.waits ≡ false → AllEnded threads ended
-  serial_here goes_on = elim st.phase [ inl serial ↦ serial.all_ended | inr waiting ↦ never_true (sym waiting.waits ∙ goes_on) ]
 
   -- with one unit, a thread that has begun comes behind those below it
   lower_here : length rest ≡ 1 → (t : ℕ) → t < threads → LowerEnded ended t ⊎ (p.steps t ≡ 0)
@@ -234,7 +269,7 @@ module _ (image : Image) (master : Unit) (rest : List Unit) (drawn : ℕ) (start
                   omega (arith, last, here, before, below)))
 
 -- a unit at a trap runs
-trap_runs : (image : Image) (start : Start) (u : Unit) (kind : TrapKind) (spawned : Bool) → is_active spawned u ≡ true → next_of image start u ≡ next.Trap kind → u.state ≡ Runs
+pub trap_runs : (image : Image) (start : Start) (u : Unit) (kind : TrapKind) (spawned : Bool) → is_active spawned u ≡ true → next_of image start u ≡ next.Trap kind → u.state ≡ Runs
 trap_runs image start u kind spawned active is = by_state u.state refl (live_of (is_live u.state) (if u.number == 0 then not spawned else spawned) active)
   where
     live_of : (a b : Bool) → (a && b) ≡ true → a ≡ true
@@ -270,12 +305,16 @@ log_of image memory m log p t f =
           (p.ends 0 ≡ record { start = m.start; unit = resumes image m.start u }) × IsPrompt (move image) (p.steps 0) (p.starts 0) (part_of 0 log)) f.units
           (λ u at is. let same : f.master ≡ u = some_same f.master u at in let master_waits : f.master.waits ≡ true = ap (λ (x : Unit). x.waits) same ∙ is in
           (subst (λ x. p.ends 0 ≡ record { start = m.start; unit = resumes image m.start x }) same (waits_here image f.master f.rest m.drawn m.start f.world.threads f.world.ended p f.stands master_waits), f.prompt master_waits));
-      serial = of_units m.units f.master f.rest (λ units. (u : Unit) → slice_get units 0 ≡ Some u → u.waits ≡ false → AllEnded f.world.threads f.world.ended) f.units
-          (λ u at goes_on. serial_here image f.master f.rest m.drawn m.start f.world.threads f.world.ended p f.stands (ap (λ (x : Unit). x.waits) (some_same f.master u at) ∙ goes_on));
       at_work = of_units m.units f.master f.rest (λ units. (actor : ℕ) → 0 < actor → actor < f.world.threads → f.world.ended actor ≡ false →
           (p.steps actor ≡ 0) ⊎ ((u : Unit) × (slice_get units (suc (p.owner actor)) ≡ Some u) × (u.state ≡ Runs) × (p.ends actor ≡ record { start = m.start; unit = u }) × (p.runner (p.owner actor) ≡ actor)))
           f.units (work_here image f.master f.rest m.drawn m.start f.world.threads f.world.ended p f.stands);
-      number = threads;
+      serial = of_units m.units f.master f.rest (λ units. is_spawned units ≡ false → AllEnded f.world.threads f.world.ended) f.units
+          (serial_here image f.master f.rest m.drawn m.start f.world.threads f.world.ended p f.stands);
+      runs = of_units m.units f.master f.rest (λ units. is_spawned units ≡ true → (place : ℕ) (u : Unit) → slice_get units (suc place) ≡ Some u → u.state ≡ Runs →
+          (0 < p.runner place) × (p.runner place < f.world.threads) × (f.world.ended (p.runner place) ≡ false) × (p.ends (p.runner place) ≡ record { start = m.start; unit = u })
+          × (length units ≡ 2 → LowerEnded f.world.ended (p.runner place)))
+          f.units (runs_here image f.master f.rest m.drawn m.start f.world.threads f.world.ended p f.stands);
+      thread = threads;
       over = of_units m.units f.master f.rest (λ units. 2 ≤ length units → ((k : ℕ) (u : Unit) → slice_get units k ≡ Some u → is_active (is_spawned units) u ≡ false) → IsSomeAnd (slice_get units 0) (λ u. u.state ≡ Halted)) f.units
           (over_here image f.master f.rest m.drawn m.start f.world.threads f.world.ended p f.stands);
       halted = of_units m.units f.master f.rest (λ units. IsSomeAnd (slice_get units 0) (λ u. u.state ≡ Halted) ↔ (f.world.ended 0 ≡ true)) f.units
@@ -321,7 +360,7 @@ turn_of-length : (image : Image) (m : Machine) (k : ℕ) (o : Option Unit) → l
 turn_of-length image m k None = refl
 turn_of-length image m k (Some u) = moves-length image m k u (next_of image m.start u)
 
-after-length : (image : Image) (m : Machine) (schedule : List ℕ) → length (after image m schedule).units ≡ length m.units
+pub after-length : (image : Image) (m : Machine) (schedule : List ℕ) → length (after image m schedule).units ≡ length m.units
 after-length image m [] = refl
 after-length image m (k ∷ schedule) = after-length image (turn image m k) schedule ∙ turn_of-length image m k (slice_get m.units k)
 

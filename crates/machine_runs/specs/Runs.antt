@@ -15,39 +15,43 @@ use Rattle.machine_log.specs.Log.{Log, World, opening_world, after_log, AllEnded
 use Rattle.xmt_isa.specs.Threads.{move}
 use Rattle.xmt_isa.specs.Traces.{IsAtTrap}
 use Rattle.xmt_isa.specs.Valid.{IsValid}
-use Rattle.machine_log.specs.Done.{Parts, IsDone, IsRising, owned, spawns_of}
+use Rattle.machine_log.specs.Done.{Parts, IsDone, IsRising, LowerEnded, owned, spawns_of}
 use Rattle.interleaving.specs.Actors.{part_of, IsPrompt, turns_of}
 use Rattle.xmt_isa.specs.declared.unit.Next.TheVariants as next
 
--- a thread is where a unit is
-abbrev pub IsAt : Machine → Unit → Parts → (thread : ℕ) → Type 0
-IsAt m u p thread = p.ends thread ≡ record { start = m.start; unit = u }
+-- an actor is where a unit is
+abbrev pub IsAt : Machine → Unit → Parts → (actor : ℕ) → Type 0
+IsAt m u p actor = p.ends actor ≡ record { start = m.start; unit = u }
 
--- a machine is what a log tells, with what each thread did by itself
+-- a machine is what a log tells, with what each actor did by itself
 pub record IsLogOf (image : Image) (memory : List ℕ) (m : Machine) (log : Log) (p : Parts) : Type 0 where
   pub done : IsDone image memory log p
   pub world : World
   pub is_world : after_log image (opening_world image memory) log ≡ world
   pub words : m.words ≡ world.words
   pub printed : m.out ≡ world.printed
-  -- of a thread that isn't there nothing was done
-  pub to_come : (thread : ℕ) → world.threads < 1 + thread → (p.steps thread ≡ 0) × (world.ended thread ≡ false)
-  -- an active unit that runs is a thread that hasn't ended, unit 0 the serial code
+  -- of an actor that isn't there nothing was done
+  pub to_come : (actor : ℕ) → world.threads < 1 + actor → (p.steps actor ≡ 0) × (world.ended actor ≡ false)
+  -- an active unit that runs is an actor that hasn't ended, unit 0 the serial code
   pub active : (k : ℕ) (u : Unit) → slice_get m.units k ≡ Some u → is_active (is_spawned m.units) u ≡ true → u.state ≡ Runs →
-      (thread : ℕ) × (thread < world.threads) × (world.ended thread ≡ false) × IsAt m u p thread × ((k ≡ 0) ↔ (thread ≡ 0))
+      (actor : ℕ) × (actor < world.threads) × (world.ended actor ≡ false) × IsAt m u p actor × ((k ≡ 0) ↔ (actor ≡ 0))
   -- while the master waits, the serial code stands behind its join already, and its last step was its spawn
   pub waits : (u : Unit) → slice_get m.units 0 ≡ Some u → u.waits ≡ true →
       (p.ends 0 ≡ record { start = m.start; unit = resumes image m.start u }) × IsPrompt (move image) (p.steps 0) (p.starts 0) (part_of 0 log)
-  -- while it doesn't, all virtual threads have ended
-  pub serial : (u : Unit) → slice_get m.units 0 ≡ Some u → u.waits ≡ false → AllEnded world.threads world.ended
   -- a virtual thread that hasn't ended was never drawn, or some control unit runs it, and no other one
-  pub at_work : (thread : ℕ) → 0 < thread → thread < world.threads → world.ended thread ≡ false →
-      (p.steps thread ≡ 0) ⊎ ((u : Unit) × (slice_get m.units (suc (p.owner thread)) ≡ Some u) × (u.state ≡ Runs) × IsAt m u p thread × (p.runner (p.owner thread) ≡ thread))
-  -- a thread that runs has the number with which it began
-  pub number : (thread : ℕ) → (p.ends thread).unit.state ≡ Runs → (p.ends thread).unit.thread ≡ (p.starts thread).unit.thread
-  -- an active unit that stands at a trap is a thread that stands at that trap, with the same line and number
+  pub at_work : (actor : ℕ) → 0 < actor → actor < world.threads → world.ended actor ≡ false →
+      (p.steps actor ≡ 0) ⊎ ((u : Unit) × (slice_get m.units (suc (p.owner actor)) ≡ Some u) × (u.state ≡ Runs) × IsAt m u p actor × (p.runner (p.owner actor) ≡ actor))
+  -- where the master does not wait, each virtual thread has ended
+  pub serial : is_spawned m.units ≡ false → AllEnded world.threads world.ended
+  -- while it waits, a control unit that runs is the virtual thread that it runs
+  pub runs : is_spawned m.units ≡ true → (place : ℕ) (u : Unit) → slice_get m.units (suc place) ≡ Some u → u.state ≡ Runs →
+      (0 < p.runner place) × (p.runner place < world.threads) × (world.ended (p.runner place) ≡ false) × IsAt m u p (p.runner place)
+      × (length m.units ≡ 2 → LowerEnded world.ended (p.runner place))
+  -- an actor that runs has the thread number with which it began
+  pub thread : (actor : ℕ) → (p.ends actor).unit.state ≡ Runs → (p.ends actor).unit.thread ≡ (p.starts actor).unit.thread
+  -- an active unit that stands at a trap is an actor that stands at that trap, with the same line and thread number
   pub traps : (k : ℕ) (u : Unit) (kind : TrapKind) → slice_get m.units k ≡ Some u → is_active (is_spawned m.units) u ≡ true → next_of image m.start u ≡ next.Trap kind →
-      (thread : ℕ) × (thread < world.threads) × (world.ended thread ≡ false) × IsAtTrap image (p.ends thread) kind (slice_index image.lines u.at) × ((p.ends thread).unit.thread ≡ u.thread) × (u.thread ≡ (p.starts thread).unit.thread)
+      (actor : ℕ) × (actor < world.threads) × (world.ended actor ≡ false) × IsAtTrap image (p.ends actor) kind (slice_index image.lines u.at) × ((p.ends actor).unit.thread ≡ u.thread) × (u.thread ≡ (p.starts actor).unit.thread)
   -- where there is a control unit and no unit is active, the machine has halted
   pub over : 2 ≤ length m.units → ((k : ℕ) (u : Unit) → slice_get m.units k ≡ Some u → is_active (is_spawned m.units) u ≡ false) → HasHalted m
   -- the machine has halted just where the serial code has ended

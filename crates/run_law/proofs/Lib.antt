@@ -2,4 +2,3 @@ pub mod Shared
 pub mod Cells
 pub mod Opening
 pub mod Parts
-pub mod Schedules

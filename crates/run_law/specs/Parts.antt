@@ -1,8 +1,11 @@
 -- What each thread of a machine's log did by itself, as a trace of the image.
-use Rattle.std.specs.Prelude.{ℕ, ◌<◌, List, Option}
+use Rattle.std.specs.Prelude.{ℕ, ◌<◌, List, ◌++◌, Option}
 use Rattle.std.specs.Option.{IfSome}
 use Rattle.xmt_base.specs.declared.values.TrapKind.{TrapKind}
-use Rattle.source_log.specs.Codes.{DoesIn}
+use Rattle.interleaving.specs.Actors.{part_of}
+use Rattle.interleaving.specs.Parts.{actions_of, replies_of}
+use Rattle.interleaving.specs.Starts.{start_of}
+use Rattle.source_log.specs.Log.{trap_action}
 use Rattle.xmt_isa.specs.declared.image.Image.{Image}
 use Rattle.xmt_isa.specs.Traces.{IsAtTrap, traces_of}
 use Rattle.machine_log.specs.Log.{Log, opening_world, after_log}
@@ -18,4 +21,4 @@ ThreadsDoTheirParts =
     (image : Image) (memory : List ℕ) (log : Log) (p : Parts) → IsDone image memory log p →
     (trap : ℕ → Option (TrapKind × ℕ)) → StandAtTraps image p (after_log image (opening_world image memory) log).threads trap →
     (thread : ℕ) → thread < (after_log image (opening_world image memory) log).threads →
-    DoesIn log trap (traces_of image) thread (p.steps thread)
+    traces_of image (start_of log thread) (replies_of (part_of thread log)) (actions_of (part_of thread log) ++ trap_action (trap thread)) (p.steps thread)

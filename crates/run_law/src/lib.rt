@@ -3,7 +3,6 @@
 
 ghost use Rattle.run_law.specs.Cells.{LogsAreLawfulOverCells, RisingLogsRiseOverCells, ProgramsAgreeAtFirst};
 ghost use Rattle.run_law.specs.Parts.{ThreadsDoTheirParts};
-ghost use Rattle.run_law.specs.Schedules.{LogsHaveSchedules};
 
 /// A log of the machine is lawful over the cells of the source too.
 pub fn logs_are_lawful_over_cells()
@@ -16,10 +15,4 @@ pub fn logs_are_lawful_over_cells()
 /// log.
 pub fn threads_do_their_parts()
     ensures { ThreadsDoTheirParts }
-{}
-
-/// Where the traces of an image are a program's, each log of the machine is what a schedule of the
-/// source does.
-pub fn logs_have_schedules()
-    ensures { LogsHaveSchedules }
 {}
