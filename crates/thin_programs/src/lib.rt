@@ -1,0 +1,10 @@
+//! The programs of thin sources are thin, and the images of thin programs are valid.
+#![tactic(auto)]
+
+ghost use Rattle.thin_programs.specs.Laws.{ProgramsArePlain};
+
+/// The blocks of a thin program spawn nothing, call nothing and declare nothing. It does nothing
+/// when it runs.
+pub fn thin_programs_are_plain()
+    ensures { ProgramsArePlain }
+{}
