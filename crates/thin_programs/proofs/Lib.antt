@@ -1,1 +1,3 @@
+pub mod Globals
 pub mod Plain
+pub mod Trees

@@ -15,7 +15,7 @@ use xmt_base::{Place, is_name};
 
 /// A mark of a thin source.
 #[derive(Clone, Copy, Debug, PartialEq, Eq)]
-pub(crate) enum Mark {
+pub enum Mark {
     OpenRound,
     CloseRound,
     OpenSquare,
@@ -33,7 +33,7 @@ pub(crate) enum Mark {
 
 /// What a token is.
 #[derive(Clone, Copy, Debug, PartialEq, Eq)]
-pub(crate) enum TokenKind {
+pub enum TokenKind {
     Name,
     Number(u32),
     Int,
@@ -47,7 +47,7 @@ pub(crate) enum TokenKind {
 
 /// A token: its bytes in the source, from `start` to before `end`, and the place of the first.
 #[derive(Clone, Copy, Debug, PartialEq, Eq)]
-pub(crate) struct Token {
+pub struct Token {
     pub kind: TokenKind,
     pub start: usize,
     pub end: usize,
