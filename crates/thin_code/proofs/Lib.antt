@@ -1,3 +1,4 @@
+pub mod Encoded
 pub mod Heights
 pub mod Inside
 pub mod Keeps

@@ -1,5 +1,5 @@
 -- What the definitions by the rows of a tree say of a tree that is written with boxes and lists.
-use Rattle.std.proofs.Common.{◌≡◌, refl, sym, ◌∙◌, ap, subst, ℕ, ◌+◌, ◌<◌, true, List, [], ◌∷◌, ◌++◌, append_assoc, map, Some}
+use Rattle.std.proofs.Common.{◌≡◌, refl, sym, ◌∙◌, ap, subst, ℕ, ◌+◌, ◌<◌, true, List, [], ◌∷◌, ◌++◌, append_assoc, map}
 use Rattle.xmt_base.specs.declared.operators.BinOp.{BinOp}
 use Rattle.source_meaning.specs.declared.tree.Expr.{Expr}
 use Rattle.source_meaning.specs.declared.tree.ExprKind.{ExprKind}
@@ -11,16 +11,16 @@ use Rattle.source_meaning.specs.Layout.{first_word, words_of}
 use Rattle.source_meaning.specs.Opened.{opened}
 use Rattle.xmt_isa.specs.declared.operation.Operation.TheVariants as does
 use Rattle.xmt_isa.specs.declared.operation.Location.TheVariants as at_location
-use Rattle.xmt_isa.specs.Operation.{operation_of}
 use Rattle.thin_code.specs.declared.emit.Code.{Code}
 use Rattle.thin_code.specs.Code.{Lined, one, fetch, value, assignment_of, index_code, value_code, binary_code}
 use Rattle.thin_code.specs.Emitted.{Appends}
+use Rattle.thin_code.specs.Encoding.{instruction_of}
 use Rattle.thin_code.specs.Thin.{IsInGlobal, IsPlainOperator, IsThin, IsThinSpot, IsThinAssignment}
 
 -- ---- what is appended
 
 pub appends_none : (code : Code) → Appends code code []
-appends_none code = record { operations = sym (nothing (map operation_of code.code)); are_lines = sym (nothing code.lines) }
+appends_none code = record { instructions = sym (nothing code.code); are_lines = sym (nothing code.lines) }
   where
     nothing : {X : Type 0} (xs : List X) → xs ++ [] ≡ xs
     nothing [] = refl
@@ -33,7 +33,7 @@ map_both f (x ∷ xs) ys = ap (λ zs. f x ∷ zs) (map_both f xs ys)
 pub appends_both : (old mid new : Code) (first second : List Lined) → Appends old mid first → Appends mid new second → Appends old new (first ++ second)
 appends_both old mid new first second a b =
     record {
-      operations = b.operations ∙ ap (λ xs. xs ++ map (λ l. Some l.operation) second) a.operations ∙ append_assoc (map operation_of old.code) (map (λ l. Some l.operation) first) (map (λ l. Some l.operation) second) ∙ ap (λ xs. map operation_of old.code ++ xs) (sym (map_both (λ l. Some l.operation) first second));
+      instructions = b.instructions ∙ ap (λ xs. xs ++ map (λ l. instruction_of l.operation) second) a.instructions ∙ append_assoc old.code (map (λ l. instruction_of l.operation) first) (map (λ l. instruction_of l.operation) second) ∙ ap (λ xs. old.code ++ xs) (sym (map_both (λ l. instruction_of l.operation) first second));
       are_lines = b.are_lines ∙ ap (λ xs. xs ++ map (λ l. l.line) second) a.are_lines ∙ append_assoc old.lines (map (λ l. l.line) first) (map (λ l. l.line) second) ∙ ap (λ xs. old.lines ++ xs) (sym (map_both (λ l. l.line) first second));
     }
 

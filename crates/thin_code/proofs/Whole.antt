@@ -42,6 +42,7 @@ use Rattle.thin_code.specs.Image.{IsCode, body_of, IsThinProgram, IsImageOf}
 use Rattle.thin_code.specs.Thin.{printed}
 use Rattle.source_log.specs.Bounded.{IsBounded, HasBoundedTraces}
 use Rattle.thin_code.proofs.Keeps.{told}
+use Rattle.thin_code.proofs.Encoded.{AllEmitted, operations_of, emitted_main}
 use Rattle.thin_code.proofs.Units.{HasCode, has_front, has_back, Point, actor_at, unit_at}
 use Rattle.thin_code.proofs.Points.{Fits}
 use Rattle.thin_code.proofs.Steps.{IsOver, KeepsTo, over, tells, Meets}
@@ -84,8 +85,8 @@ has_code_from image (l ∷ wanted) at before operations lines is =
     flat None operation h = cc
     flat (Some i) operation h = cc
 
-pub has_code : (image : Image) (wanted : List Lined) → IsCode image.code image.lines wanted → HasCode image 0 wanted
-has_code image wanted is = has_code_from image wanted 0 [] is.operations is.are_lines refl
+pub has_code : (image : Image) (wanted : List Lined) → IsCode image.code image.lines wanted → AllEmitted wanted → HasCode image 0 wanted
+has_code image wanted is emitted = has_code_from image wanted 0 [] (ap (map operation_of) is.instructions ∙ operations_of wanted emitted) is.are_lines refl
 
 -- ---- globals lie inside the data words
 
@@ -262,7 +263,7 @@ module _ (program : Program) (image : Image) (thin : IsThinProgram program) (is 
       let rules = main_rules image program in
       let code = body program.globals function.body in
       let same_body : body_of program.functions ≡ thin.function.body = ap body_of thin.functions in
-      let stands = has_code image (main program.globals function.body) (subst (λ b. IsCode image.code image.lines (main program.globals b)) same_body is.code) in
+      let stands = has_code image (main program.globals function.body) (subst (λ b. IsCode image.code image.lines (main program.globals b)) same_body is.code) (emitted_main program.globals (length program.globals) function.body thin.body) in
       let last = has_back image 0 code (one does.Return 0) stands in
       let around : CodeContext image no_start base false 0 (call_code program thread) program.globals own frame room some texts whole rules = record { around = Some; go = λ exit. Asks Ending (λ reply. None); part = λ code. refl } in
       subst (λ a. KeepsTo image whole rules n 40 a (Some (call_code program thread program.main 0 []))) (sym main_is)

@@ -1,18 +1,18 @@
 -- The image of a thin program.
-use Rattle.std.specs.Prelude.{◌≡◌, ℕ, ◌^◌, ◌≤◌, List, [], ◌∷◌, length, map, replicate, All, Some}
+use Rattle.std.specs.Prelude.{◌≡◌, ℕ, ◌^◌, ◌≤◌, List, [], ◌∷◌, length, map, replicate, All}
 use Rattle.source_meaning.specs.declared.tree.Function.{Function}
 use Rattle.source_meaning.specs.declared.tree.Program.{Program}
 use Rattle.source_meaning.specs.declared.tree.Stmt.{Stmt}
 use Rattle.source_meaning.specs.Layout.{all_words, symbols_from, opening_words, HasRoom}
 use Rattle.xmt_isa.specs.declared.image.Image.{Image}
 use Rattle.xmt_isa.specs.declared.image.Instr.{Instr}
-use Rattle.xmt_isa.specs.Operation.{operation_of}
 use Rattle.thin_code.specs.Code.{Lined, main}
+use Rattle.thin_code.specs.Encoding.{instruction_of}
 use Rattle.thin_code.specs.Thin.{IsThinBody, printed}
 
 -- instructions and their lines are this code
 pub record IsCode (code : List Instr) (lines : List ℕ) (wanted : List Lined) : Type 0 where
-  pub operations : map operation_of code ≡ map (λ l. Some l.operation) wanted
+  pub instructions : code ≡ map (λ l. instruction_of l.operation) wanted
   pub are_lines : lines ≡ map (λ l. l.line) wanted
 
 -- the body of the first function

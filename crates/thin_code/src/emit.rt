@@ -2,8 +2,10 @@
 ghost use Rattle.std.specs.Prelude.{◌≡◌, [], OnOk};
 ghost use Rattle.thin_code.specs.Code.{one, fetch};
 ghost use Rattle.thin_code.specs.Emitted.{Appends};
-ghost use Rattle.xmt_isa.specs.Operation.{IsEncodable};
+ghost use Rattle.xmt_isa.specs.Registers.{IsWritable};
+ghost use Rattle.thin_code.specs.Encoding.{IsEmitted};
 
+use crate::instruction::instruction;
 use source_meaning::{Expr, ExprKind};
 use sqlite_items::Items;
 use std::alloc::{AllocError, Global};
@@ -29,10 +31,10 @@ pub(crate) fn no_code(alloc: Global) -> Code
 
 /// One more instruction.
 pub(crate) fn push(code: &mut Code, operation: Operation, line: u32) -> Result<(), AllocError>
-    requires { IsEncodable operation }
+    requires { IsEmitted operation }
     ensures { OnOk result (Appends code.old code.new (one operation line)) }
 {
-    code.code.push(operation.instruction())?;
+    code.code.push(instruction(operation))?;
     code.lines.push(line)?;
     Ok(())
 }
@@ -46,6 +48,7 @@ pub(crate) fn push_fetch(
     line: u32,
     e: &Expr,
 ) -> Result<(), AllocError>
+    requires { IsWritable register }
     ensures { OnOk result (Appends code.old code.new (fetch register slot line e.now.kind)) }
 {
     match &e.kind {

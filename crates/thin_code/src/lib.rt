@@ -5,6 +5,7 @@ mod emit;
 mod expressions;
 mod globals;
 mod image;
+mod instruction;
 mod laws;
 mod statements;
 

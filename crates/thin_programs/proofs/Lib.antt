@@ -1,3 +1,4 @@
 pub mod Globals
+pub mod Operations
 pub mod Plain
 pub mod Trees

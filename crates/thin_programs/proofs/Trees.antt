@@ -1,5 +1,5 @@
 -- The program of a thin source is thin: values wait in so many slots as the nesting counts.
-use Rattle.std.proofs.Common.{arith, ◌≡◌, refl, sym, ◌∙◌, ap, subst, ℕ, suc, ◌+◌, ◌≤◌, ◌<◌, ◌^◌, max, Bool, true, false, List, [], ◌∷◌, ◌++◌, length, get_or, Option, Some, None}
+use Rattle.std.proofs.Common.{arith, ◌≡◌, refl, sym, ◌∙◌, ap, subst, ℕ, suc, ◌+◌, ◌≤◌, ◌<◌, ◌^◌, max, Bool, true, false, List, [], ◌∷◌, ◌++◌, length, get_or, Option, Some, None, ◌⊎◌, inl, inr}
 use Rattle.std.specs.Prelude.{All, slice_get, if◌then◌else◌}
 use Rattle.std.specs.List.{position}
 use Rattle.std.proofs.lemmas.List.Quantifiers.{position-Some}
@@ -18,10 +18,6 @@ use Rattle.source_meaning.specs.declared.tree.GlobalVar.{GlobalVar}
 use Rattle.source_meaning.specs.declared.tree.Program.{Program}
 use Rattle.source_meaning.specs.Layout.{all_words, HasRoom}
 use Rattle.source_meaning.specs.Opened.{opened}
-use Rattle.thin_source.specs.declared.tokens.Mark.TheVariants as m
-use Rattle.thin_source.specs.declared.tokens.Token.{Token}
-use Rattle.thin_source.specs.declared.tokens.TokenKind.{TokenKind}
-use Rattle.thin_source.specs.declared.tokens.TokenKind.TheVariants as kind
 use Rattle.thin_source.specs.Tokens.{Text}
 use Rattle.thin_source.specs.Names.{Context, bytes_of, within_block, has_shape, of_shape, global_of}
 use Rattle.thin_source.specs.Grammar.{Tokens, Level, node, product_op, sum_op, SpellsSpot, scalar, element, Spells, number, dollar, read, brackets, product, sum, as_product, as_sum}
@@ -32,23 +28,20 @@ use Rattle.thin_code.specs.Image.{IsThinProgram}
 use Rattle.thin_code.specs.Thin.{IsPlainOperator, IsThin, IsThinSpot, IsThinAssignment, IsThinStatement, IsThinBlock, IsThinMainStatement, IsThinBody}
 use Rattle.thin_programs.proofs.Globals.{IsDeclared, declared_globals}
 
-plain_product : (k : TokenKind) (o : BinOp) → product_op k ≡ Some o → IsPlainOperator o
-plain_product (kind.Mark m.Star) o h = let is : op.Mul ≡ o = cc in subst IsPlainOperator is tt
-plain_product (kind.Mark _) o h = absurd cc
-plain_product _ o h = absurd cc
+plain_product : (k : _) (o : BinOp) → product_op k ≡ Some o → IsPlainOperator o
+plain_product k o h = let is : op.Mul ≡ o = grind (arith, h) in subst IsPlainOperator is tt
 
-plain_sum : (k : TokenKind) (o : BinOp) → sum_op k ≡ Some o → IsPlainOperator o
-plain_sum (kind.Mark m.Plus) o h = let is : op.Add ≡ o = cc in subst IsPlainOperator is tt
-plain_sum (kind.Mark m.Minus) o h = let is : op.Sub ≡ o = cc in subst IsPlainOperator is tt
-plain_sum (kind.Mark _) o h = absurd cc
-plain_sum _ o h = absurd cc
+plain_sum : (k : _) (o : BinOp) → sum_op k ≡ Some o → IsPlainOperator o
+plain_sum k o h =
+    let is : (op.Add ≡ o) ⊎ (op.Sub ≡ o) = grind (arith, h) in
+    elim is [ inl add ↦ subst IsPlainOperator add tt | inr sub ↦ subst IsPlainOperator sub tt ]
 
 module _ (c : Context) where
   no_global : GlobalVar
   no_global = record { name = []; array = false; length = 0; constant = false; opening = [] }
 
   -- what a name stands for is a global
-  global_there : (array : Bool) (t : Token) (g : ℕ) → global_of c array t ≡ Some g → g < length c.globals
+  global_there : (array : Bool) (t : _) (g : ℕ) → global_of c array t ≡ Some g → g < length c.globals
   global_there array t g is = by (position (λ global. bytes_eq (bytes_of c.source t) global.name) c.globals) refl is
     where
       shaped : (shape : Bool) (i : ℕ) → (if shape then Some i else None) ≡ Some g → i ≡ g

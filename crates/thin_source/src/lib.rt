@@ -14,7 +14,6 @@ mod tokens;
 pub use laws::laws_of_sources;
 pub use reader::read_thin;
 pub use source::{NOT_THIN, SourceKind, SourceRefusal};
-pub use tokens::{Mark, Token, TokenKind};
 
 #[cfg(test)]
 mod tests;

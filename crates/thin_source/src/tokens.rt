@@ -15,7 +15,7 @@ use xmt_base::{Place, is_name};
 
 /// A mark of a thin source.
 #[derive(Clone, Copy, Debug, PartialEq, Eq)]
-pub enum Mark {
+pub(crate) enum Mark {
     OpenRound,
     CloseRound,
     OpenSquare,
@@ -33,7 +33,7 @@ pub enum Mark {
 
 /// What a token is.
 #[derive(Clone, Copy, Debug, PartialEq, Eq)]
-pub enum TokenKind {
+pub(crate) enum TokenKind {
     Name,
     Number(u32),
     Int,
@@ -47,7 +47,7 @@ pub enum TokenKind {
 
 /// A token: its bytes in the source, from `start` to before `end`, and the place of the first.
 #[derive(Clone, Copy, Debug, PartialEq, Eq)]
-pub struct Token {
+pub(crate) struct Token {
     pub kind: TokenKind,
     pub start: usize,
     pub end: usize,

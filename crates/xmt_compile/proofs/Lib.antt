@@ -10,3 +10,5 @@ pub mod Traps
 pub mod Steps
 pub mod Working
 pub mod Implements
+pub mod Rows
+mod EmptyRow

@@ -1,2 +1,3 @@
 mod Codes
+mod Sources
 mod Written

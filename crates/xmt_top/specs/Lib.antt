@@ -1,4 +1,5 @@
 pub mod Complaints
 pub mod Messages
+pub mod Sources
 pub mod Streams
 pub mod Words

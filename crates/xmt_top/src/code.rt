@@ -1,15 +1,13 @@
 //! Compiles the program of a thin source. Each value of the code stands in a frame slot: the value
 //! of an expression in the slot that its caller names, and those of its parts behind it.
-ghost use Rattle.std.specs.Prelude.{◌≤◌, ◌<◌, ◌↔◌, ◌^◌, All, IsTrue};
+ghost use Rattle.std.specs.Prelude.{◌≤◌, ◌<◌, ◌^◌, All};
 ghost use Rattle.source_meaning.specs.Layout.{all_words, HasRoom};
 ghost use Rattle.xmt_isa.specs.Operation.{IsEncodable};
 
-use source_meaning::{
-    BinOp, Expr, ExprKind, GlobalVar, Program, Spot, Stmt, StmtKind, layout, opening,
-};
+use source_meaning::{BinOp, Expr, ExprKind, Program, Spot, Stmt, StmtKind, layout, opening};
 use sqlite_items::Items;
 use std::alloc::{AllocError, Global};
-use thin_source::{NOT_THIN, SourceRefusal, read_thin};
+use thin_source::{NOT_THIN, SourceRefusal};
 use xmt_base::Symbol;
 use xmt_isa::{FunctionEntry, Image, Instr, Location, Operation};
 
@@ -35,38 +33,11 @@ struct Code<'a> {
     slots: u32,
 }
 
-/// The image of a thin source.
-pub(crate) fn compile(alloc: Global, source: &[u8]) -> Result<Image, SourceRefusal> {
-    let program = read_thin(alloc, source)?;
-    image_of(alloc, &program)
-}
-
-// The globals have at most 2^20 words.
-fn fits(globals: &[GlobalVar]) -> bool
-    ensures { IsTrue result → all_words globals.now ≤ 2 ^ 20 }
+/// The image of a program whose `main` has thin statements alone.
+pub(crate) fn image_of(alloc: Global, program: &Program) -> Result<Image, SourceRefusal>
+    requires words { all_words program.now.globals ≤ 2 ^ 20 }
+    requires room { All HasRoom program.now.globals }
 {
-    let mut words = 0u64;
-    for global in globals {
-        words = words.saturating_add(u64::from(global.length));
-    }
-    words <= 1 << 20
-}
-
-// No global has more opening values than words.
-fn have_room(globals: &[GlobalVar]) -> bool
-    ensures { IsTrue result ↔ All HasRoom globals.now }
-{
-    globals
-        .iter()
-        .all(|global| global.opening.len() <= global.length as usize)
-}
-
-// The image of a program whose `main` has thin statements alone.
-fn image_of(alloc: Global, program: &Program) -> Result<Image, SourceRefusal> {
-    let globals = program.globals.as_slice();
-    if !fits(globals) || !have_room(globals) {
-        return Err(NOT_THIN);
-    }
     let symbols = layout(alloc, program)?;
     let words = opening(alloc, program)?.words;
     let Some(main) = program.functions.get(program.main as usize) else {

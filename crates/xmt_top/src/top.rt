@@ -1,18 +1,22 @@
 //! The top call.
-ghost use Rattle.std.specs.Prelude.{◌≡◌, ◌≢◌, ◌⊎◌, ◌≤◌, ◌∷◌, [], None, IfSome, Contains, map, string_bytes};
+ghost use Rattle.std.specs.Prelude.{◌≡◌, ◌≢◌, ◌⊎◌, ◌≤◌, ◌^◌, ◌∷◌, [], None, IfSome, All, Contains, map, string_bytes};
+ghost use Rattle.source_meaning.specs.Layout.{all_words, HasRoom};
+ghost use Rattle.thin_source.specs.Thin.{HasNoProgram};
 ghost use Rattle.xmt_base.specs.Host.{Rose, HasFile};
 ghost use Rattle.xmt_top.specs.declared.top.Outcome.TheVariants as ended;
 ghost use Rattle.xmt_top.specs.Words.{job_of, HasEachFile};
+ghost use Rattle.xmt_top.specs.Sources.{IsRefused, MustBeRefused};
 ghost use Rattle.xmt_top.specs.Complaints.{Complains, ComplainsOfTrap};
 ghost use Rattle.xmt_top.specs.Messages.{no_job_line, fault_line, refusal_line};
 
-use crate::code::compile;
+use crate::code::image_of;
 use crate::messages::{HOST_FAULT, NO_JOB, NO_MEMORY, refusal_line, trap_line};
 use crate::print::complain_all;
 use crate::run::{RunEnd, run};
 use crate::words::job_of;
+use source_meaning::Program;
 use std::alloc::Global;
-use thin_source::SourceRefusal;
+use thin_source::{SourceRefusal, read_thin};
 use xmt_base::{Host, HostFault, TakeFault, Trap, take_file};
 
 /// How a job ended, as the exit status of the program.
@@ -44,6 +48,9 @@ pub fn xmt<H: Host>(alloc: Global, words: &[String], host: &mut H) -> Status
     ensures codes { Contains (0 ∷ 1 ∷ 2 ∷ 4 ∷ 6 ∷ 7 ∷ []) result.code }
     ensures no_job { result.code ≡ 2 → job_of (map (λ word. string_bytes word) words.now) ≡ None }
     ensures no_job_only { job_of (map (λ word. string_bytes word) words.now) ≡ None → (result.code ≡ 2) ⊎ (result.code ≡ 7) }
+    // The source is refused exactly where it has no program, as far as memory and the host allow.
+    ensures refused { result.code ≡ 1 → IfSome (job_of (map (λ word. string_bytes word) words.now)) (λ file. IsRefused (H.files host.old) file) }
+    ensures refused_only { IfSome (job_of (map (λ word. string_bytes word) words.now)) (λ file. MustBeRefused (H.files host.old) file → Contains (1 ∷ 6 ∷ 7 ∷ []) result.code) }
     ensures fault { result.code ≡ 6 → Rose (H.faults host.old) (H.faults host.new) }
     ensures no_fault { H.steady host.old → HasEachFile (H.files host.old) (job_of (map (λ word. string_bytes word) words.now)) → H.faults host.new ≡ H.faults host.old }
 
@@ -96,6 +103,8 @@ fn run_file<H: Host>(alloc: Global, file: &str, host: &mut H) -> Status
     ensures steady { H.steady host.old → H.steady host.new }
     ensures files { H.files host.new ≡ H.files host.old }
     ensures out { result.code ≡ 1 → H.out host.new ≡ H.out host.old }
+    ensures refused { result.code ≡ 1 → IsRefused (H.files host.old) file.now }
+    ensures refused_only { MustBeRefused (H.files host.old) file.now → Contains (1 ∷ 6 ∷ 7 ∷ []) result.code }
 {
     let outcome = outcome_of(alloc, file, host);
     report(alloc, file, outcome, host)
@@ -110,6 +119,8 @@ fn outcome_of<H: Host>(alloc: Global, file: &str, host: &mut H) -> Outcome
     ensures files { H.files host.new ≡ H.files host.old }
     ensures err { H.err host.new ≡ H.err host.old }
     ensures out { result ≡ ended.Refused → H.out host.new ≡ H.out host.old }
+    ensures refused { result ≡ ended.Refused → IsRefused (H.files host.old) file.now }
+    ensures refused_only { MustBeRefused (H.files host.old) file.now → (result ≡ ended.Refused) ⊎ (result ≡ ended.NoMemory) ⊎ (result ≡ ended.Fault) }
 {
     match take_file(alloc, host, file, LIMIT) {
         Err(TakeFault::Fault) => Outcome::Fault,
@@ -128,10 +139,31 @@ fn outcome_of_source<H: Host>(alloc: Global, source: &[u8], host: &mut H) -> Out
     ensures files { H.files host.new ≡ H.files host.old }
     ensures err { H.err host.new ≡ H.err host.old }
     ensures out { result ≡ ended.Refused → H.out host.new ≡ H.out host.old }
+    ensures refused { result ≡ ended.Refused → HasNoProgram source.now }
+    ensures refused_only { HasNoProgram source.now → (result ≡ ended.Refused) ⊎ (result ≡ ended.NoMemory) }
 {
-    match compile(alloc, source) {
+    match read_thin(alloc, source) {
         Err(SourceRefusal::Refused(_, _)) => Outcome::Refused,
         Err(SourceRefusal::NoMemory) => Outcome::NoMemory,
+        Ok(program) => outcome_of_program(alloc, &program, host),
+    }
+}
+
+// Compiles and runs the program of a thin source.
+fn outcome_of_program<H: Host>(alloc: Global, program: &Program, host: &mut H) -> Outcome
+    requires words { all_words program.now.globals ≤ 2 ^ 20 }
+    requires room { All HasRoom program.now.globals }
+    ensures fault { result ≡ ended.Fault → Rose (H.faults host.old) (H.faults host.new) }
+    ensures no_fault { H.steady host.old → H.faults host.new ≡ H.faults host.old }
+    ensures later { H.faults host.old ≤ H.faults host.new }
+    ensures steady { H.steady host.old → H.steady host.new }
+    ensures files { H.files host.new ≡ H.files host.old }
+    ensures err { H.err host.new ≡ H.err host.old }
+    ensures read { result ≢ ended.Refused }
+{
+    match image_of(alloc, program) {
+        // A thin program lacks nothing but memory.
+        Err(_) => Outcome::NoMemory,
         Ok(image) => match run(alloc, &image, host) {
             Ok(()) => Outcome::Done,
             Err(RunEnd::Trap(trap)) => Outcome::Trap(trap),
@@ -147,6 +179,7 @@ fn report<H: Host>(alloc: Global, file: &str, outcome: Outcome, host: &mut H) ->
     ensures is_job { result.code ≢ 2 }
     ensures fault { result.code ≡ 6 → outcome ≡ ended.Fault }
     ensures refused { result.code ≡ 1 → outcome ≡ ended.Refused }
+    ensures refused_only { (outcome ≡ ended.Refused) ⊎ (outcome ≡ ended.NoMemory) ⊎ (outcome ≡ ended.Fault) → Contains (1 ∷ 6 ∷ 7 ∷ []) result.code }
     ensures done { result.code ≡ 0 → H.err host.new ≡ H.err host.old }
     ensures refused_line { result.code ≡ 1 → Complains (refusal_line file.now) (H.faults host.old) (H.faults host.new) (H.err host.old) (H.err host.new) }
     ensures trap_line { result.code ≡ 4 → ComplainsOfTrap (H.faults host.old) (H.faults host.new) (H.err host.old) (H.err host.new) }
