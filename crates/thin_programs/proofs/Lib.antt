@@ -1,4 +1,6 @@
+pub mod Blocks
 pub mod Globals
+pub mod Instructions
 pub mod Operations
 pub mod Plain
 pub mod Trees
