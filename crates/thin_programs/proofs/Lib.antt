@@ -5,3 +5,5 @@ pub mod Operations
 pub mod Plain
 pub mod Sizes
 pub mod Trees
+pub mod Valid
+pub mod Words

@@ -117,7 +117,7 @@ module _ (source : Text) (globals : List GlobalVar) where
   thin_body (parallel {before = before} {behind = behind} {s = s} first one last) few =
       body_both (length globals) before (s ∷ behind) (thin_statements first (omega (arith, few))) (thin_spawn one (omega (arith, few)), thin_statements last (omega (arith, few)))
 
-  thin_source_body : {n nodes : ℕ} {body : List Stmt} {ts : Tokens} → SpellsSource source n nodes globals body ts → n ≤ 200 → IsThinBody (length globals) body
+  pub thin_source_body : {n nodes : ℕ} {body : List Stmt} {ts : Tokens} → SpellsSource source n nodes globals body ts → n ≤ 200 → IsThinBody (length globals) body
   thin_source_body (whole main opens closes brace closing declared km ko kc kb body kz) few = thin_body body few
 
 -- ---- the program

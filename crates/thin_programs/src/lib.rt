@@ -1,7 +1,7 @@
 //! The programs of thin sources are thin, and the images of thin programs are valid.
 #![tactic(auto)]
 
-ghost use Rattle.thin_programs.specs.Laws.{SourcesHaveThinPrograms, ProgramsArePlain};
+ghost use Rattle.thin_programs.specs.Laws.{SourcesHaveThinPrograms, ProgramsArePlain, ImagesAreValid};
 
 /// The program of a thin source is one that thin code has an image for. It does nothing when it
 /// runs.
@@ -13,4 +13,9 @@ pub fn thin_sources_have_thin_programs()
 /// when it runs.
 pub fn thin_programs_are_plain()
     ensures { ProgramsArePlain }
+{}
+
+/// The image of a thin source's program is valid. It does nothing when it runs.
+pub fn thin_images_are_valid()
+    ensures { ImagesAreValid }
 {}
