@@ -1,10 +1,10 @@
 -- The blocks of sound code: each spawn has its join and each join its spawn, and between them nothing stands that is outside blocks alone.
-use Rattle.std.proofs.Common.{arith, ◌≡◌, refl, sym, ◌∙◌, ap, subst, ℕ, zero, suc, ◌≤◌, ◌<◌, Bool, true, false, List, [], ◌∷◌, ◌⊎◌, inl, inr}
+use Rattle.std.proofs.Common.{arith, ◌≡◌, refl, sym, ◌∙◌, ap, subst, ℕ, zero, suc, ◌<◌, Bool, true, false, List, [], ◌∷◌, ◌⊎◌, inl, inr}
 use Rattle.std.specs.Prelude.{slice_get, IsSomeAnd}
 use Rattle.thin_code.specs.Code.{Lined}
 use Rattle.thin_code.specs.Encoding.{instruction_of}
 use Rattle.thin_programs.proofs.Operations.{goes, IsSoundCode}
-use Rattle.thin_programs.proofs.Instructions.{instructions, is_bracket, is_outer, Role, begins, ends, neither, role_of}
+use Rattle.thin_programs.proofs.Instructions.{instructions, is_bracket, is_outer, not_both, begins, ends, neither, role_of}
 
 -- the instruction at a place has this number
 abbrev pub Has : List Lined → (at n : ℕ) → Type 0
@@ -31,9 +31,6 @@ pub record BlockTo (code : List Lined) (join : ℕ) : Type 0 where
   pub order : spawn < join
   pub spawns : Has code spawn 44
   pub between : (k : ℕ) → spawn < k → k < join → IsOuter code k → ⊥
-
-not_both : {A : Type 0} (b : Bool) → b ≡ false → b ≡ true → A
-not_both b first second = cc
 
 not_two : {A : Type 0} (n : ℕ) → n ≡ 44 → n ≡ 45 → A
 not_two n first second = absurd (omega (arith, first, second))

@@ -1,5 +1,5 @@
 -- What the globals of a thin source are.
-use Rattle.std.proofs.Common.{arith, ◌≡◌, refl, sym, ◌∙◌, ap, subst, ℕ, ◌+◌, ◌-◌, ◌≤◌, ◌&&◌, Bool, true, false, cond, List, [], ◌∷◌, ◌++◌, length, length-append, append_assoc, take, drop, nat_lt, ◌^◌, length-drop, length-take, Option, Some, None, ◌⊎◌, inl, inr}
+use Rattle.std.proofs.Common.{arith, ◌≡◌, refl, sym, ◌∙◌, ap, ℕ, ◌+◌, ◌-◌, ◌≤◌, Bool, true, false, cond, List, [], ◌∷◌, ◌++◌, length, length-append, append_assoc, take, drop, nat_lt, ◌^◌, length-drop, length-take, Option, Some, None}
 use Rattle.std.specs.Prelude.{⊤, ◌==◌, codes, slice_range, All}
 use Rattle.std.specs.Char.{is_ascii_digit}
 use Rattle.std.specs.Str.{bytes_eq}
@@ -76,8 +76,8 @@ spelled_from source front end is long = tt
 spelled_from source front (blank {at = at} b {z = z} is_blank rest) is long =
     spelled_from source (front ++ b ∷ []) rest (is ∙ sym (append_assoc front (b ∷ []) z)) (omega (arith, length-append front (b ∷ []), long))
 spelled_from source front (taken {at = at} w z k longest is_kind rest) is long = (
-    ap kind_of (ap (λ s. slice_range s at (at + length w)) is ∙ ap (λ n. slice_range (front ++ (w ++ z)) n (n + length w)) (sym long) ∙ bytes_there front w z) ∙ is_kind,
-    spelled_from source (front ++ w) rest (is ∙ sym (append_assoc front w z)) (omega (arith, length-append front w, long)),
+  ap kind_of (ap (λ s. slice_range s at (at + length w)) is ∙ ap (λ n. slice_range (front ++ (w ++ z)) n (n + length w)) (sym long) ∙ bytes_there front w z) ∙ is_kind,
+  spelled_from source (front ++ w) rest (is ∙ sym (append_assoc front w z)) (omega (arith, length-append front w, long)),
 )
 
 in_front : (source : Text) (x y : Tokens) → AreSpelled source (x ++ y) → AreSpelled source x
@@ -85,6 +85,9 @@ in_front source [] y h = tt
 in_front source (t ∷ x) y h = (h.0, in_front source x y h.1)
 
 -- ---- globals
+
+pub no_global : GlobalVar
+no_global = record { name = []; array = false; length = 0; constant = false; opening = [] }
 
 -- what a global of a thin source is
 pub record IsDeclared (source : Text) (global : GlobalVar) : Type 0 where

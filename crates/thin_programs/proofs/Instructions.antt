@@ -1,9 +1,8 @@
 -- What is asked of each instruction of a valid image, for the operations of thin code.
-use Rattle.std.proofs.Common.{arith, ◌≡◌, refl, sym, ◌∙◌, ap, subst, ℕ, zero, suc, ◌+◌, ◌%◌, ◌≤◌, ◌<◌, ◌^◌, ◌||◌, Bool, true, false, List, [], ◌∷◌, length, map, Option, Some, None}
+use Rattle.std.proofs.Common.{arith, ◌≡◌, refl, ap, ℕ, zero, suc, ◌%◌, ◌≤◌, ◌<◌, ◌||◌, Bool, true, false, List, [], ◌∷◌, length, map}
 use Rattle.std.specs.Prelude.{◌==◌, slice_get, All, IfSome, IsSomeAnd}
 use Rattle.std.specs.Option.{option_and_then}
 use Rattle.std.proofs.lemmas.List.Elements.{All-nil, All-cons}
-use Rattle.xmt_base.specs.declared.operators.BinOp.{BinOp}
 use Rattle.xmt_base.specs.declared.operators.BinOp.TheVariants as op
 use Rattle.xmt_isa.specs.declared.image.Image.{Image}
 use Rattle.xmt_isa.specs.declared.image.Instr.{Instr}
@@ -14,8 +13,7 @@ use Rattle.xmt_isa.specs.Operation.{operation_of}
 use Rattle.xmt_isa.specs.Registers.{RegistersFit}
 use Rattle.xmt_isa.specs.Targets.{TargetFits, IsSlot, FunctionTargetFits}
 use Rattle.thin_code.specs.Code.{Lined}
-use Rattle.thin_code.specs.Encoding.{instruction_of, number_of_operator}
-use Rattle.thin_code.specs.Thin.{IsPlainOperator}
+use Rattle.thin_code.specs.Encoding.{instruction_of}
 use Rattle.thin_programs.proofs.Operations.{goes, IsSound, IsSoundCode}
 
 -- the instructions of code
@@ -47,7 +45,7 @@ pub record IsGood (image : Image) (operation : Operation) : Type 0 where
   pub target : IfSome (operation_of (instruction_of operation)) (TargetFits image (instruction_of operation).imm)
   pub slots : (at : ℕ) → IfSome (operation_of (instruction_of operation)) (FunctionTargetFits image at)
 
-not_both : {A : Type 0} (b : Bool) → b ≡ false → b ≡ true → A
+pub not_both : {A : Type 0} (b : Bool) → b ≡ false → b ≡ true → A
 not_both b first second = cc
 
 module _ (words : ℕ) where

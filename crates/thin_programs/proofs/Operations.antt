@@ -1,5 +1,5 @@
 -- Which operations thin code is made of, and that the code of a thin program is made of them.
-use Rattle.std.proofs.Common.{arith, ◌≡◌, refl, sym, ◌∙◌, ap, subst, ℕ, ◌+◌, ◌≤◌, ◌<◌, ◌^◌, Bool, true, false, List, [], ◌∷◌, ◌++◌, length}
+use Rattle.std.proofs.Common.{arith, ◌≡◌, refl, sym, subst, ℕ, ◌+◌, ◌≤◌, ◌<◌, ◌^◌, Bool, true, false, List, [], ◌∷◌, ◌++◌, length}
 use Rattle.std.specs.Prelude.{⊤}
 use Rattle.source_meaning.specs.declared.tree.Expr.{Expr}
 use Rattle.source_meaning.specs.declared.tree.ExprKind.{ExprKind, Row_of-Expr, end_of-Expr, more_of-Expr}
@@ -15,7 +15,7 @@ use Rattle.xmt_isa.specs.declared.operation.Operation.{Operation}
 use Rattle.xmt_isa.specs.declared.operation.Operation.TheVariants as does
 use Rattle.xmt_isa.specs.declared.operation.Location.TheVariants as at_location
 use Rattle.xmt_isa.specs.Registers.{IsRegister, IsWritable}
-use Rattle.thin_code.specs.Code.{Lined, one, fetch, boxed_fetch, location, read_code, index_code, value_code, boxed_code, boxed_value, value, assignment, assignment_of, print_of, plain_statement, block_code, spawn, statement, body, main}
+use Rattle.thin_code.specs.Code.{Lined, one, fetch, boxed_fetch, read_code, index_code, value_code, boxed_code, boxed_value, value, assignment_of, print_of, plain_statement, block_code, statement, body, main}
 use Rattle.thin_code.specs.Thin.{IsPlainOperator, IsThin, IsThinSpot, IsThinBox, IsThinAssignment, IsThinPrint, IsThinStatement, IsThinBlock, IsThinMainStatement, IsThinBody}
 
 -- whether a block stands around what is behind an operation

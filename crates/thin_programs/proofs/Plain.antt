@@ -1,8 +1,7 @@
 -- The blocks of a thin program spawn nothing, call nothing and declare nothing.
-use Rattle.std.proofs.Common.{arith, ◌≡◌, refl, sym, ◌∙◌, ap, subst, ℕ, zero, suc, ◌+◌, ◌||◌, Bool, true, false, List, [], ◌∷◌, length, Option, Some, None}
+use Rattle.std.proofs.Common.{arith, ◌≡◌, refl, sym, ◌∙◌, ap, subst, ℕ, zero, suc, ◌+◌, ◌||◌, Bool, true, false, List, [], ◌∷◌, length, Some}
 use Rattle.std.specs.Prelude.{slice_get}
-use mathlib.Core.Former.{Count, none_left, one_more}
-use Rattle.source_meaning.specs.declared.tree.Expr.{Expr}
+use mathlib.Core.Former.{none_left, one_more}
 use Rattle.source_meaning.specs.declared.tree.ExprKind.{ExprKind, Row_of-Expr, end_of-Expr, more_of-Expr}
 use Rattle.source_meaning.specs.declared.tree.ExprKind.TheVariants as expr
 use Rattle.source_meaning.specs.declared.tree.Spot.{Spot}
@@ -12,10 +11,9 @@ use Rattle.source_meaning.specs.declared.tree.StmtKind.{StmtKind, Row_of-Stmt, e
 use Rattle.source_meaning.specs.declared.tree.StmtKind.TheVariants as stmt
 use Rattle.source_meaning.specs.declared.tree.Function.{Function}
 use Rattle.source_meaning.specs.declared.tree.Program.{Program}
-use Rattle.source_meaning.specs.Variables.{is_shared}
 use Rattle.source_log.specs.Checked.{expression_calls, index_calls, any_expression_calls, calls, any_calls, declares, any_declares, BlocksAre, AllBlocksAre, ListBlocksAre, NoSpawn, IsPlainBlock, IsPlain}
 use Rattle.thin_code.specs.Image.{IsThinProgram}
-use Rattle.thin_code.specs.Thin.{IsThin, IsThinSpot, IsThinBox, IsThinAssignment, IsThinPrint, IsThinStatement, IsThinBlock, IsThinMainStatement, IsThinBody}
+use Rattle.thin_code.specs.Thin.{IsThin, IsThinSpot, IsThinBox, IsThinAssignment, IsThinStatement, IsThinBlock, IsThinMainStatement, IsThinBody}
 use Rattle.thin_programs.specs.Laws.{in_blocks}
 
 neither : (a b : Bool) → a ≡ false → b ≡ false → (a || b) ≡ false
@@ -91,10 +89,11 @@ module _ (n : ℕ) (body : List Stmt) where
   plain_statement : (k : StmtKind) → IsThinMainStatement n k → BlocksAre (IsPlainBlock MayCall body) k
   plain_statement (stmt.Value e) thin = tt
   plain_statement (stmt.Print text values) thin = tt
-  plain_statement (stmt.Spawn' low high shape block) thin =
-      (no_spawn_in_block n block thin.2,
-      λ f h. absurd (never (any_calls f block) (no_call_in_block n f block thin.2) h),
-      λ slot h. absurd (never (any_declares slot block) (no_declaration_in_block n slot block thin.2) h))
+  plain_statement (stmt.Spawn' low high shape block) thin = (
+    no_spawn_in_block n block thin.2,
+    λ f h. absurd (never (any_calls f block) (no_call_in_block n f block thin.2) h),
+    λ slot h. absurd (never (any_declares slot block) (no_declaration_in_block n slot block thin.2) h),
+  )
   plain_statement _ thin = absurd thin
 
   plain_body : (statements : List Stmt) → IsThinBody n statements → ListBlocksAre (IsPlainBlock MayCall body) statements

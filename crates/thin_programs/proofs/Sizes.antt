@@ -1,18 +1,18 @@
 -- The code of a thin source has at most four instructions for each node, and its return.
-use Rattle.std.proofs.Common.{arith, false, ◌≡◌, refl, ap, ◌∙◌, sym, ℕ, suc, ◌+◌, ◌*◌, ◌≤◌, List, [], ◌∷◌, ◌++◌, length, length-append, append_assoc}
+use Rattle.std.proofs.Common.{arith, ◌≡◌, refl, ℕ, ◌+◌, ◌*◌, ◌≤◌, List, [], ◌∷◌, ◌++◌, length, length-append}
 use Rattle.xmt_base.specs.declared.values.Place.{Place}
 use Rattle.source_meaning.specs.declared.tree.Expr.{Expr}
 use Rattle.source_meaning.specs.declared.tree.ExprKind.{ExprKind}
 use Rattle.source_meaning.specs.declared.tree.ExprKind.TheVariants as expr
 use Rattle.source_meaning.specs.declared.tree.Spot.{Spot}
-use Rattle.source_meaning.specs.declared.tree.Spot.TheVariants as spot
 use Rattle.source_meaning.specs.declared.tree.Stmt.{Stmt}
 use Rattle.source_meaning.specs.declared.tree.StmtKind.TheBlock.{hidden-the_row-Stmt-0}
 use Rattle.source_meaning.specs.declared.tree.GlobalVar.{GlobalVar}
 use Rattle.source_meaning.specs.Opened.{opened}
 use Rattle.thin_source.specs.Tokens.{Text}
 use Rattle.thin_source.specs.Names.{Context, within_block}
-use Rattle.thin_source.specs.Grammar.{Tokens, Level, node, SpellsSpot, scalar, element, Spells, number, dollar, read, brackets, product, sum, as_product, as_sum}
+use Rattle.thin_source.specs.Bodies.{context_of}
+use Rattle.thin_source.specs.Grammar.{Tokens, Level, SpellsSpot, scalar, element, Spells, number, dollar, read, brackets, product, sum, as_product, as_sum}
 use Rattle.thin_source.specs.Statements.{SpellsStmt, assignment, print, SpellsStmts, none, more, SpellsSpawn, spawn, SpellsBody, serial, parallel, SpellsSource, whole}
 use Rattle.thin_code.specs.Code.{Lined, fetch, index_code, value_code, assignment_of, plain_statement, block_code, statement, body, main}
 
@@ -23,6 +23,7 @@ length_fetch register slot line _ = refl
 module _ (globals : List GlobalVar) (c : Context) where
   mutual
     unfolding opened
+
     size_of_index : {n nodes : ℕ} {s : Spot} {p : Place} {x : Tokens} → SpellsSpot c n nodes s p x → (slot line : ℕ) → length (index_code globals slot line s) ≤ 4 * nodes + 2
     size_of_index (scalar t k there) slot line = omega arith
     size_of_index (element t opens closes {index = index} k there ko inner kc) slot line =
@@ -81,21 +82,18 @@ module _ (globals : List GlobalVar) (c : Context) where
       omega (arith, length-append {A = Lined}, size_of_statement one s.at.line, size_of_block others)
 
 module _ (globals : List GlobalVar) (source : Text) (known : List GlobalVar) where
-  abbrev serial_context : Context
-  serial_context = record { source = source; globals = known; inside = false }
-
-  size_of_main_statement : {n nodes : ℕ} {s : Stmt} {x : Tokens} → SpellsStmt serial_context n nodes s x → (line : ℕ) → length (statement globals line s.kind) ≤ 4 * nodes
+  size_of_main_statement : {n nodes : ℕ} {s : Stmt} {x : Tokens} → SpellsStmt (context_of source known) n nodes s x → (line : ℕ) → length (statement globals line s.kind) ≤ 4 * nodes
   unfolding opened
-  size_of_main_statement (assignment equals semicolon target ke value ks) line = size_of_statement globals serial_context (assignment equals semicolon target ke value ks) line
+  size_of_main_statement (assignment equals semicolon target ke value ks) line = size_of_statement globals (context_of source known) (assignment equals semicolon target ke value ks) line
   size_of_main_statement (print word opens text comma closes semicolon outside kw ko kt kc value kr ks) line =
-      size_of_statement globals serial_context (print word opens text comma closes semicolon outside kw ko kt kc value kr ks) line
+      size_of_statement globals (context_of source known) (print word opens text comma closes semicolon outside kw ko kt kc value kr ks) line
 
-  size_of_statements : {n nodes : ℕ} {statements : List Stmt} {x : Tokens} → SpellsStmts serial_context n nodes statements x → length (body globals statements) ≤ 4 * nodes
+  size_of_statements : {n nodes : ℕ} {statements : List Stmt} {x : Tokens} → SpellsStmts (context_of source known) n nodes statements x → length (body globals statements) ≤ 4 * nodes
   size_of_statements none = omega arith
   size_of_statements (more {s = s} {rest = rest} one others) =
       omega (arith, length-append {A = Lined}, size_of_main_statement one s.at.line, size_of_statements others)
 
-  size_of_spawn : {n nodes : ℕ} {s : Stmt} {x : Tokens} → SpellsSpawn serial_context n nodes s x → (line : ℕ) → length (statement globals line s.kind) ≤ 4 * nodes
+  size_of_spawn : {n nodes : ℕ} {s : Stmt} {x : Tokens} → SpellsSpawn (context_of source known) n nodes s x → (line : ℕ) → length (statement globals line s.kind) ≤ 4 * nodes
   unfolding opened
   size_of_spawn (spawn word opens comma closes brace closing {low = low} {high = high} {block = block} kw ko first kc second kr kb inner kz) line =
       omega (
@@ -103,16 +101,16 @@ module _ (globals : List GlobalVar) (source : Text) (known : List GlobalVar) whe
         length-append {A = Lined},
         length_fetch 3 0 line low.kind,
         length_fetch 4 1 line high.kind,
-        size_of_value globals serial_context first 0 low.at.line,
-        size_of_value globals serial_context second 1 high.at.line,
-        size_of_block globals (within_block serial_context) inner,
+        size_of_value globals (context_of source known) first 0 low.at.line,
+        size_of_value globals (context_of source known) second 1 high.at.line,
+        size_of_block globals (within_block (context_of source known)) inner,
       )
 
   length_body : (xs ys : List Stmt) → length (body globals (xs ++ ys)) ≡ length (body globals xs) + length (body globals ys)
   length_body [] ys = omega arith
   length_body (s ∷ xs) ys = omega (arith, length-append {A = Lined}, length_body xs ys)
 
-  size_of_body : {n nodes : ℕ} {statements : List Stmt} {x : Tokens} → SpellsBody serial_context n nodes statements x → length (body globals statements) ≤ 4 * nodes
+  size_of_body : {n nodes : ℕ} {statements : List Stmt} {x : Tokens} → SpellsBody (context_of source known) n nodes statements x → length (body globals statements) ≤ 4 * nodes
   size_of_body (serial statements) = size_of_statements statements
   size_of_body (parallel {before = before} {behind = behind} {s = s} first one last) =
       omega (arith, length_body before (s ∷ behind), length-append {A = Lined}, size_of_statements first, size_of_spawn one s.at.line, size_of_statements last)

@@ -1,6 +1,6 @@
 -- The program of a thin source is thin: values wait in so many slots as the nesting counts.
-use Rattle.std.proofs.Common.{arith, ◌≡◌, refl, sym, ◌∙◌, ap, subst, ℕ, suc, ◌+◌, ◌≤◌, ◌<◌, ◌^◌, max, Bool, true, false, List, [], ◌∷◌, ◌++◌, length, get_or, Option, Some, None, ◌⊎◌, inl, inr}
-use Rattle.std.specs.Prelude.{All, slice_get, if◌then◌else◌}
+use Rattle.std.proofs.Common.{arith, ◌≡◌, refl, sym, ap, subst, ℕ, ◌+◌, ◌≤◌, ◌<◌, Bool, true, false, List, [], ◌∷◌, ◌++◌, length, Option, Some, None, ◌⊎◌, inl, inr}
+use Rattle.std.specs.Prelude.{slice_get, if◌then◌else◌}
 use Rattle.std.specs.List.{position}
 use Rattle.std.proofs.lemmas.List.Quantifiers.{position-Some}
 use Rattle.std.specs.Str.{bytes_eq}
@@ -10,23 +10,21 @@ use Rattle.xmt_base.specs.declared.operators.BinOp.TheVariants as op
 use Rattle.source_meaning.specs.declared.tree.Expr.{Expr}
 use Rattle.source_meaning.specs.declared.tree.ExprKind.TheVariants as expr
 use Rattle.source_meaning.specs.declared.tree.Spot.{Spot}
-use Rattle.source_meaning.specs.declared.tree.Spot.TheVariants as spot
 use Rattle.source_meaning.specs.declared.tree.Stmt.{Stmt}
-use Rattle.source_meaning.specs.declared.tree.StmtKind.TheVariants as stmt
 use Rattle.source_meaning.specs.declared.tree.StmtKind.TheBlock.{hidden-the_row-Stmt-0}
 use Rattle.source_meaning.specs.declared.tree.GlobalVar.{GlobalVar}
 use Rattle.source_meaning.specs.declared.tree.Program.{Program}
-use Rattle.source_meaning.specs.Layout.{all_words, HasRoom}
 use Rattle.source_meaning.specs.Opened.{opened}
 use Rattle.thin_source.specs.Tokens.{Text}
 use Rattle.thin_source.specs.Names.{Context, bytes_of, within_block, has_shape, of_shape, global_of}
+use Rattle.thin_source.specs.Bodies.{context_of}
 use Rattle.thin_source.specs.Grammar.{Tokens, Level, node, product_op, sum_op, SpellsSpot, scalar, element, Spells, number, dollar, read, brackets, product, sum, as_product, as_sum}
 use Rattle.thin_source.specs.Statements.{SpellsStmt, assignment, print, SpellsStmts, none, more, SpellsSpawn, spawn, SpellsBody, serial, parallel, SpellsSource, whole}
 use Rattle.thin_source.specs.Thin as thin_source
 use Rattle.thin_source.specs.Thin.{main_program}
 use Rattle.thin_code.specs.Image.{IsThinProgram}
 use Rattle.thin_code.specs.Thin.{IsPlainOperator, IsThin, IsThinSpot, IsThinAssignment, IsThinStatement, IsThinBlock, IsThinMainStatement, IsThinBody}
-use Rattle.thin_programs.proofs.Globals.{IsDeclared, declared_globals}
+use Rattle.thin_programs.proofs.Globals.{no_global, declared_globals}
 
 plain_product : (k : _) (o : BinOp) → product_op k ≡ Some o → IsPlainOperator o
 plain_product k o h = let is : op.Mul ≡ o = grind (arith, h) in subst IsPlainOperator is tt
@@ -37,9 +35,6 @@ plain_sum k o h =
     elim is [ inl add ↦ subst IsPlainOperator add tt | inr sub ↦ subst IsPlainOperator sub tt ]
 
 module _ (c : Context) where
-  no_global : GlobalVar
-  no_global = record { name = []; array = false; length = 0; constant = false; opening = [] }
-
   -- what a name stands for is a global
   global_there : (array : Bool) (t : _) (g : ℕ) → global_of c array t ≡ Some g → g < length c.globals
   global_there array t g is = by (position (λ global. bytes_eq (bytes_of c.source t) global.name) c.globals) refl is
@@ -56,6 +51,7 @@ module _ (c : Context) where
 
   mutual
     unfolding opened
+
     thin_spot : {n nodes : ℕ} {s : Spot} {p : Place} {x : Tokens} → SpellsSpot c n nodes s p x → (slot : ℕ) → slot + n ≤ 512 → IsThinSpot (length c.globals) c.inside slot s
     thin_spot (scalar t {number = i} k there) slot fits = global_there false t i there
     thin_spot (element t opens closes {number = i} k there ko index kc) slot fits = (global_there true t i there, thin_value index slot fits)
@@ -95,24 +91,21 @@ body_both n [] ys first second = second
 body_both n (s ∷ xs) ys first second = (first.0, body_both n xs ys first.1 second)
 
 module _ (source : Text) (globals : List GlobalVar) where
-  abbrev serial_context : Context
-  serial_context = record { source = source; globals = globals; inside = false }
-
-  thin_main_statement : {n nodes : ℕ} {s : Stmt} {x : Tokens} → SpellsStmt serial_context n nodes s x → n ≤ 200 → IsThinMainStatement (length globals) s.kind
+  thin_main_statement : {n nodes : ℕ} {s : Stmt} {x : Tokens} → SpellsStmt (context_of source globals) n nodes s x → n ≤ 200 → IsThinMainStatement (length globals) s.kind
   unfolding opened
-  thin_main_statement (assignment equals semicolon {p = p} spot ke value ks) few = thin_assignment serial_context p spot value (omega (arith, few)) (omega (arith, few))
-  thin_main_statement (print word opens text comma closes semicolon outside kw ko kt kc value kr ks) few = (refl, refl, thin_value serial_context value 0 (omega (arith, few)))
+  thin_main_statement (assignment equals semicolon {p = p} spot ke value ks) few = thin_assignment (context_of source globals) p spot value (omega (arith, few)) (omega (arith, few))
+  thin_main_statement (print word opens text comma closes semicolon outside kw ko kt kc value kr ks) few = (refl, refl, thin_value (context_of source globals) value 0 (omega (arith, few)))
 
-  thin_statements : {n nodes : ℕ} {body : List Stmt} {x : Tokens} → SpellsStmts serial_context n nodes body x → n ≤ 200 → IsThinBody (length globals) body
+  thin_statements : {n nodes : ℕ} {body : List Stmt} {x : Tokens} → SpellsStmts (context_of source globals) n nodes body x → n ≤ 200 → IsThinBody (length globals) body
   thin_statements none few = tt
   thin_statements (more one others) few = (thin_main_statement one (omega (arith, few)), thin_statements others (omega (arith, few)))
 
-  thin_spawn : {n nodes : ℕ} {s : Stmt} {x : Tokens} → SpellsSpawn serial_context n nodes s x → n ≤ 200 → IsThinMainStatement (length globals) s.kind
+  thin_spawn : {n nodes : ℕ} {s : Stmt} {x : Tokens} → SpellsSpawn (context_of source globals) n nodes s x → n ≤ 200 → IsThinMainStatement (length globals) s.kind
   unfolding opened
   thin_spawn (spawn word opens comma closes brace closing kw ko low kc high kr kb block kz) few =
-      (thin_value serial_context low 0 (omega (arith, few)), thin_value serial_context high 1 (omega (arith, few)), thin_block (within_block serial_context) block (omega (arith, few)))
+      (thin_value (context_of source globals) low 0 (omega (arith, few)), thin_value (context_of source globals) high 1 (omega (arith, few)), thin_block (within_block (context_of source globals)) block (omega (arith, few)))
 
-  thin_body : {n nodes : ℕ} {body : List Stmt} {x : Tokens} → SpellsBody serial_context n nodes body x → n ≤ 200 → IsThinBody (length globals) body
+  thin_body : {n nodes : ℕ} {body : List Stmt} {x : Tokens} → SpellsBody (context_of source globals) n nodes body x → n ≤ 200 → IsThinBody (length globals) body
   thin_body (serial statements) few = thin_statements statements few
   thin_body (parallel {before = before} {behind = behind} {s = s} first one last) few =
       body_both (length globals) before (s ∷ behind) (thin_statements first (omega (arith, few))) (thin_spawn one (omega (arith, few)), thin_statements last (omega (arith, few)))

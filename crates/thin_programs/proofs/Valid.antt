@@ -1,5 +1,5 @@
 -- The images of thin sources are valid.
-use Rattle.std.proofs.Common.{arith, ◌≡◌, refl, sym, ◌∙◌, ap, subst, ℕ, zero, suc, ◌+◌, ◌-◌, ◌*◌, ◌≤◌, ◌<◌, ◌^◌, Bool, true, false, List, [], ◌∷◌, ◌++◌, length, length-append, map, replicate, Option, Some, None, ◌⊎◌, inl, inr}
+use Rattle.std.proofs.Common.{arith, ◌≡◌, refl, sym, ◌∙◌, ap, subst, ℕ, zero, suc, ◌+◌, ◌-◌, ◌≤◌, ◌<◌, ◌^◌, true, false, List, [], ◌∷◌, ◌++◌, length, length-append, map, replicate, Option, Some, None, ◌⊎◌, inl, inr}
 use Rattle.std.specs.Prelude.{slice_get, All, IfSome, IsSomeAnd}
 use Rattle.std.specs.Option.{option_and_then}
 use Rattle.std.proofs.lemmas.List.{length-map}
@@ -10,17 +10,16 @@ use Rattle.xmt_base.specs.Format.{IsPrintable, IsFormat}
 use Rattle.source_meaning.specs.declared.tree.GlobalVar.{GlobalVar}
 use Rattle.source_meaning.specs.declared.tree.Program.{Program}
 use Rattle.source_meaning.specs.declared.tree.Stmt.{Stmt}
-use Rattle.source_meaning.specs.Layout.{first_word, words_of, all_words, opening_words, symbols_from, HasRoom}
-use Rattle.xmt_isa.specs.declared.image.FunctionEntry.{FunctionEntry}
+use Rattle.source_meaning.specs.Layout.{all_words, opening_words, symbols_from, HasRoom}
 use Rattle.xmt_isa.specs.declared.image.Image.{Image}
 use Rattle.xmt_isa.specs.declared.image.Instr.{Instr}
 use Rattle.xmt_isa.specs.declared.operation.Operation.{Operation}
 use Rattle.xmt_isa.specs.declared.operation.Operation.TheVariants as does
 use Rattle.xmt_isa.specs.Operation.{operation_of}
-use Rattle.xmt_isa.specs.Image.{start_of, end_of, operation_at, IsIn, HasStarts}
+use Rattle.xmt_isa.specs.Image.{end_of, operation_at, HasStarts}
 use Rattle.xmt_isa.specs.Registers.{RegistersFit}
-use Rattle.xmt_isa.specs.Regions.{HasOp, IsJump, IsReturn, IsReadMaster, IsPrint, IsSpawn, IsJoin, Jumps, IsBlock, IsInside, IsInBlock, IsInner, IsInInner, HasRegions}
-use Rattle.xmt_isa.specs.Symbols.{Covers, AreSymbols}
+use Rattle.xmt_isa.specs.Regions.{IsJump, IsReturn, IsReadMaster, IsPrint, IsSpawn, IsJoin, Jumps, IsBlock, IsInside, IsInBlock, IsInner, HasRegions}
+use Rattle.xmt_isa.specs.Symbols.{Covers}
 use Rattle.xmt_isa.specs.Targets.{TargetFits, IsSameFunction, IsSlot}
 use Rattle.xmt_isa.specs.Valid.{HasSizes, HasSymbols, IsValid}
 use Rattle.xmt_isa.proofs.Numbers.{number_of, number_is}
@@ -29,10 +28,10 @@ use Rattle.thin_source.specs.Thin as thin_source
 use Rattle.thin_source.specs.Thin.{main_program}
 use Rattle.thin_code.specs.Code.{Lined, one, body, main}
 use Rattle.thin_code.specs.Encoding.{instruction_of}
-use Rattle.thin_code.specs.Image.{IsThinProgram, IsImageOf}
-use Rattle.thin_code.specs.Thin.{printed, IsThinBody}
+use Rattle.thin_code.specs.Image.{IsImageOf}
+use Rattle.thin_code.specs.Thin.{printed}
 use Rattle.thin_code.proofs.Symbols.{length-symbols}
-use Rattle.thin_programs.proofs.Blocks.{Has, IsOuter, BlockOf, BlockTo, block_of, whole_block_to}
+use Rattle.thin_programs.proofs.Blocks.{Has, IsOuter, BlockOf, block_of, whole_block_to}
 use Rattle.thin_programs.proofs.Globals.{IsDeclared, declared_globals}
 use Rattle.thin_programs.proofs.Instructions.{IsGood, instructions, is_outer, is_other, each_good, slots_fit, no_other}
 use Rattle.thin_programs.proofs.Operations.{IsSoundCode, sound_main}

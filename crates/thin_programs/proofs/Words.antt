@@ -1,6 +1,6 @@
 -- The words and the symbols of the globals of a thin source.
-use Rattle.std.proofs.Common.{arith, ◌≡◌, ◌≢◌, refl, sym, ◌∙◌, ap, subst, ℕ, zero, suc, ◌+◌, ◌-◌, ◌≤◌, ◌<◌, List, [], ◌∷◌, ◌++◌, length, length-append, get_or, replicate}
-use Rattle.std.specs.Prelude.{All, false}
+use Rattle.std.proofs.Common.{arith, ◌≡◌, ◌≢◌, refl, sym, ◌∙◌, subst, ℕ, zero, suc, ◌+◌, ◌-◌, ◌≤◌, ◌<◌, List, [], ◌∷◌, length, length-append, get_or}
+use Rattle.std.specs.Prelude.{All}
 use Rattle.std.specs.List.{AllPairs}
 use Rattle.std.proofs.lemmas.List.{length-replicate}
 use Rattle.std.proofs.lemmas.List.Elements.{All-nil, All-cons, All-head, All-tail}
@@ -11,6 +11,7 @@ use Rattle.source_meaning.specs.declared.tree.GlobalVar.{GlobalVar}
 use Rattle.source_meaning.specs.Layout.{first_word, words_of, all_words, opening_words, symbols_from, HasRoom}
 use Rattle.thin_source.specs.Thin.{NamesDiffer}
 use Rattle.thin_code.proofs.Symbols.{length-symbols}
+use Rattle.thin_programs.proofs.Globals.{no_global}
 
 one_more : (g : GlobalVar) (globals : List GlobalVar) → all_words (g ∷ globals) ≡ g.length + all_words globals
 one_more g globals = sum_by-cons (λ global. global.length) g globals
@@ -50,9 +51,6 @@ symbol_name : (base : ℕ) (globals : List GlobalVar) (i : ℕ) (d : Symbol) (e 
 symbol_name base [] i d e below = absurd (omega arith)
 symbol_name base (global ∷ globals) zero d e below = refl
 symbol_name base (global ∷ globals) (suc i) d e below = symbol_name (base + global.length) globals i d e (omega (arith, below))
-
-no_global : GlobalVar
-no_global = record { name = []; array = false; length = 0; constant = false; opening = [] }
 
 pub names_differ : (globals : List GlobalVar) → NamesDiffer globals → AllPairs (λ s t. s.name ≢ t.name) (symbols_from 0 globals)
 names_differ globals differ i j d less within same =
