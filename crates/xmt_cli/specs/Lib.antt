@@ -1,0 +1,5 @@
+pub mod Given
+pub mod Seen
+pub mod Numbers
+pub mod JobOf
+pub mod Spelling
