@@ -12,3 +12,5 @@ pub mod Working
 pub mod Implements
 pub mod Rows
 mod EmptyRow
+pub mod Compiled
+pub mod Picked

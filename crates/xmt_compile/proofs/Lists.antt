@@ -35,7 +35,7 @@ contains_of {Y} h y (suc n) a k above below is = by_test (a == k) refl (λ above
 
 -- ---- how many pass
 
-count_cons : (p : ℕ → Bool) (x : ℕ) (xs : List ℕ) → count_by p (x ∷ xs) ≡ cond (p x) 1 0 + count_by p xs
+pub count_cons : {A : Type 0} (p : A → Bool) (x : A) (xs : List A) → count_by p (x ∷ xs) ≡ cond (p x) 1 0 + count_by p xs
 count_cons p x xs = sum_by-cons (λ y. cond (p y) 1 0) x xs
 
 count_none : (p : ℕ → Bool) → ((t : ℕ) → p t ≡ false) → (xs : List ℕ) → count_by p xs ≡ 0

@@ -1,2 +1,4 @@
+pub mod Compiles
+pub mod Ended
 pub mod Implements
 pub mod Law

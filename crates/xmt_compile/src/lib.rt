@@ -1,11 +1,12 @@
-//! What it is for an image to implement a program, and that an image whose traces are the
-//! program's does.
+//! The compiler, what it is for an image to implement a program, and the law that an image whose
+//! traces are the program's does.
 #![tactic(auto)]
 
-ghost use Rattle.xmt_compile.specs.Law.{TracesImplement};
+mod compiler;
+mod law;
 
-/// An image each of whose traces is one of the program, in bounded work, implements the program.
-/// It does nothing when it runs.
-pub fn traces_implement()
-    ensures { TracesImplement }
-{}
+pub use compiler::compile;
+pub use law::traces_implement;
+
+#[cfg(test)]
+mod tests;

@@ -1,5 +1,5 @@
 use Rattle.xmt_compile.proofs.Implements.{traces_implement}
-use Rattle.xmt_compile.proofs.traces_implement.Goals as goal
+use Rattle.xmt_compile.proofs.law.traces_implement.Goals as goal
 
 pub returns : goal.returns
 returns c = traces_implement
