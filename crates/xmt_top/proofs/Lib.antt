@@ -1,3 +1,6 @@
 mod Codes
+mod Complaints
+mod Jobs
+mod Runs
 mod Sources
 mod Written

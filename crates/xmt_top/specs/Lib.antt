@@ -2,4 +2,5 @@ pub mod Complaints
 pub mod Messages
 pub mod Sources
 pub mod Streams
-pub mod Words
+pub mod Runs
+pub mod Outcomes

@@ -35,3 +35,7 @@ line_of_trap kind line (Some number) =
 -- the line for a trap
 abbrev pub trap_line : Trap → List ℕ
 trap_line trap = line_of_trap trap.kind trap.line trap.thread
+
+-- the line for a unit that has spent its budget; it isn't unfolded, so that proofs carry it as it stands
+unfoldable pub spent_line : (unit steps : ℕ) → List ℕ
+spent_line unit steps = codes "xmt: budget spent by unit " ++ decimal unit ++ codes " after " ++ decimal steps ++ codes " steps\n"

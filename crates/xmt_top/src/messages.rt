@@ -2,7 +2,7 @@
 ghost use Rattle.std.specs.Prelude.{◌≡◌, ◌++◌, IfOk, codes, string_bytes};
 ghost use Rattle.std.specs.Fmt.{decimal, signed_decimal};
 ghost use Rattle.xmt_base.specs.Operators.{signed};
-ghost use Rattle.xmt_top.specs.Messages.{kind_name, refusal_line, trap_line};
+ghost use Rattle.xmt_top.specs.Messages.{kind_name, refusal_line, spent_line, trap_line};
 
 use std::alloc::{AllocError, Global};
 use xmt_base::{Trap, TrapKind};
@@ -70,4 +70,11 @@ pub(crate) fn trap_line(alloc: Global, trap: Trap) -> Result<String, AllocError>
             thread_trap(alloc, kind_name(kind), line, number.as_str())
         }
     }
+}
+
+/// The line for a unit that has spent its budget.
+pub(crate) fn spent_line(alloc: Global, unit: u32, steps: u64) -> Result<String, AllocError>
+    ensures { IfOk result (λ line. string_bytes line ≡ spent_line unit steps) }
+{
+    format!(in alloc; "xmt: budget spent by unit {unit} after {steps} steps\n")
 }

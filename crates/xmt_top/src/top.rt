@@ -1,29 +1,33 @@
 //! The top call.
-ghost use Rattle.std.specs.Prelude.{◌≡◌, ◌≢◌, ◌⊎◌, ◌≤◌, ◌^◌, ◌∷◌, [], None, IfSome, All, Contains, map, string_bytes};
-ghost use Rattle.source_meaning.specs.Layout.{all_words, HasRoom};
-ghost use Rattle.thin_source.specs.Thin.{HasNoProgram};
+ghost use Rattle.std.specs.Prelude.{◌≡◌, ◌⊎◌, ℕ, ◌≤◌, ◌∷◌, [], None, Contains, map, string_bytes};
+ghost use Rattle.xmt_base.specs.declared.values.Trap.{Trap};
 ghost use Rattle.xmt_base.specs.Host.{Rose, HasFile};
+ghost use Rattle.xmt_isa.specs.declared.run.Choice.TheVariants as choice;
+ghost use Rattle.machine_core.specs.Sizes.{IsSmall};
+ghost use Rattle.xmt_cli.specs.JobOf.{task_of, AreInRange};
 ghost use Rattle.xmt_top.specs.declared.top.Outcome.TheVariants as ended;
-ghost use Rattle.xmt_top.specs.Words.{job_of, HasEachFile};
+ghost use Rattle.xmt_top.specs.Runs.{ForJob, HasRun, HasRunPartOrNot, HasTrapped, HasSpent};
+ghost use Rattle.xmt_top.specs.Outcomes.{HasEnded, HasEndedOn};
 ghost use Rattle.xmt_top.specs.Sources.{IsRefused, MustBeRefused};
-ghost use Rattle.xmt_top.specs.Complaints.{Complains, ComplainsOfTrap};
-ghost use Rattle.xmt_top.specs.Messages.{no_job_line, fault_line, refusal_line};
+ghost use Rattle.xmt_top.specs.Complaints.{Complains};
+ghost use Rattle.xmt_top.specs.Messages.{no_job_line, fault_line, refusal_line, trap_line, spent_line};
 
-use crate::code::image_of;
-use crate::messages::{HOST_FAULT, NO_JOB, NO_MEMORY, refusal_line, trap_line};
+use crate::messages::{HOST_FAULT, NO_JOB, NO_MEMORY, refusal_line, spent_line, trap_line};
 use crate::print::complain_all;
-use crate::run::{RunEnd, run};
-use crate::words::job_of;
-use source_meaning::Program;
+use machine_core::run_picked;
+use sqlite_items::Items;
 use std::alloc::Global;
-use thin_source::{SourceRefusal, read_thin};
-use xmt_base::{Host, HostFault, TakeFault, Trap, take_file};
+use thin_source::SourceRefusal;
+use xmt_base::{Host, HostFault, Memory, TakeFault, Trap, take_file};
+use xmt_cli::{Job, WordsRefusal, read_words};
+use xmt_compile::compile;
+use xmt_isa::{Image, SimEnd, SimOptions};
 
 /// How a job ended, as the exit status of the program.
 #[derive(Clone, Copy, Debug, PartialEq, Eq)]
 pub struct Status {
-    /// 0: done. 1: the source was refused. 2: the words are no job. 4: a trap. 6: the host failed.
-    /// 7: want of memory.
+    /// 0: done. 1: the source was refused. 2: the words are no job. 4: a trap. 5: a unit spent its
+    /// budget. 6: the host failed. 7: want of memory.
     pub code: u8,
 }
 
@@ -36,29 +40,33 @@ enum Outcome {
     Done,
     Refused,
     Trap(Trap),
+    Spent { unit: u32, steps: u64 },
     Fault,
     NoMemory,
 }
 
 /// Does what the words of a command line say, over a host: the words `run` and FILE run the thin
-/// source in that file, all its virtual threads on one unit, in rising order. With any code but 0
-/// one line goes to the error stream. No file is written.
+/// source in that file on a master and control units, as many as the options say, in the order
+/// that the seed picks. With any code but 0 one line goes to the error stream. No file is written.
 pub fn xmt<H: Host>(alloc: Global, words: &[String], host: &mut H) -> Status
     // Which codes there are, and when. Want of memory, code 7, is free.
-    ensures codes { Contains (0 ∷ 1 ∷ 2 ∷ 4 ∷ 6 ∷ 7 ∷ []) result.code }
-    ensures no_job { result.code ≡ 2 → job_of (map (λ word. string_bytes word) words.now) ≡ None }
-    ensures no_job_only { job_of (map (λ word. string_bytes word) words.now) ≡ None → (result.code ≡ 2) ⊎ (result.code ≡ 7) }
+    ensures codes { Contains (0 ∷ 1 ∷ 2 ∷ 4 ∷ 5 ∷ 6 ∷ 7 ∷ []) result.code }
+    ensures no_job { result.code ≡ 2 → task_of (map string_bytes words.now) ≡ None }
+    ensures no_job_only { task_of (map string_bytes words.now) ≡ None → (result.code ≡ 2) ⊎ (result.code ≡ 7) }
     // The source is refused exactly where it has no program, as far as memory and the host allow.
-    ensures refused { result.code ≡ 1 → IfSome (job_of (map (λ word. string_bytes word) words.now)) (λ file. IsRefused (H.files host.old) file) }
-    ensures refused_only { IfSome (job_of (map (λ word. string_bytes word) words.now)) (λ file. MustBeRefused (H.files host.old) file → Contains (1 ∷ 6 ∷ 7 ∷ []) result.code) }
+    ensures refused { result.code ≡ 1 → ForJob (map string_bytes words.now) (λ file options. IsRefused (H.files host.old) file) }
+    ensures refused_only { ForJob (map string_bytes words.now) (λ file options. MustBeRefused (H.files host.old) file → Contains (1 ∷ 6 ∷ 7 ∷ []) result.code) }
     ensures fault { result.code ≡ 6 → Rose (H.faults host.old) (H.faults host.new) }
-    ensures no_fault { H.steady host.old → HasEachFile (H.files host.old) (job_of (map (λ word. string_bytes word) words.now)) → H.faults host.new ≡ H.faults host.old }
+    ensures no_fault { H.steady host.old → ForJob (map string_bytes words.now) (λ file options. HasFile (H.files host.old) file) → H.faults host.new ≡ H.faults host.old }
 
-    // The line on the error stream.
-    ensures done { result.code ≡ 0 → H.err host.new ≡ H.err host.old }
-    ensures refused_line { result.code ≡ 1 → IfSome (job_of (map (λ word. string_bytes word) words.now)) (λ file. Complains (refusal_line file) (H.faults host.old) (H.faults host.new) (H.err host.old) (H.err host.new)) }
+    // What a run has done, in words of the source, and the line on the error stream.
+    ensures done { result.code ≡ 0 → ForJob (map string_bytes words.now) (λ file options. HasRun (H.files host.old) file options choice.Done (H.out host.old) (H.out host.new)) }
+    ensures trapped { result.code ≡ 4 → ForJob (map string_bytes words.now) (λ file options. HasTrapped (H.files host.old) file options (H.out host.old) (H.out host.new) (H.faults host.old) (H.faults host.new) (H.err host.old) (H.err host.new)) }
+    ensures spent { result.code ≡ 5 → ForJob (map string_bytes words.now) (λ file options. HasSpent (H.files host.old) file options (H.out host.old) (H.out host.new) (H.faults host.old) (H.faults host.new) (H.err host.old) (H.err host.new)) }
+    ensures part { Contains (6 ∷ 7 ∷ []) result.code → ForJob (map string_bytes words.now) (λ file options. HasRunPartOrNot (H.files host.old) file options (H.out host.old) (H.out host.new)) }
+    ensures done_line { result.code ≡ 0 → H.err host.new ≡ H.err host.old }
+    ensures refused_line { result.code ≡ 1 → ForJob (map string_bytes words.now) (λ file options. Complains (refusal_line file) (H.faults host.old) (H.faults host.new) (H.err host.old) (H.err host.new)) }
     ensures no_job_line { result.code ≡ 2 → Complains no_job_line (H.faults host.old) (H.faults host.new) (H.err host.old) (H.err host.new) }
-    ensures trap_line { result.code ≡ 4 → ComplainsOfTrap (H.faults host.old) (H.faults host.new) (H.err host.old) (H.err host.new) }
     ensures fault_line { result.code ≡ 6 → Complains fault_line (H.faults host.old) (H.faults host.new) (H.err host.old) (H.err host.new) }
 
     // What stays.
@@ -67,9 +75,10 @@ pub fn xmt<H: Host>(alloc: Global, words: &[String], host: &mut H) -> Status
     ensures files { H.files host.new ≡ H.files host.old }
     ensures out { Contains (1 ∷ 2 ∷ []) result.code → H.out host.new ≡ H.out host.old }
 {
-    match job_of(words) {
-        None => complain(2, NO_JOB, host),
-        Some(file) => run_file(alloc, file, host),
+    match read_words(alloc, words) {
+        Err(WordsRefusal::NotAJob) => complain(2, NO_JOB, host),
+        Err(WordsRefusal::NoMemory) => complain(7, NO_MEMORY, host),
+        Ok(Job::Run { file, options }) => run_file(alloc, file.as_str(), &options, host),
     }
 }
 
@@ -90,99 +99,95 @@ fn complain<H: Host>(code: u8, line: &[u8], host: &mut H) -> Status
 }
 
 // Runs the source in a file.
-fn run_file<H: Host>(alloc: Global, file: &str, host: &mut H) -> Status
-    ensures codes { Contains (0 ∷ 1 ∷ 2 ∷ 4 ∷ 6 ∷ 7 ∷ []) result.code }
-    ensures is_job { result.code ≢ 2 }
+fn run_file<H: Host>(alloc: Global, file: &str, options: &SimOptions, host: &mut H) -> Status
+    requires range { AreInRange options.now }
+    ensures codes { Contains (0 ∷ 1 ∷ 4 ∷ 5 ∷ 6 ∷ 7 ∷ []) result.code }
+    ensures refused { result.code ≡ 1 → IsRefused (H.files host.old) file.now }
+    ensures refused_only { MustBeRefused (H.files host.old) file.now → Contains (1 ∷ 6 ∷ 7 ∷ []) result.code }
     ensures fault { result.code ≡ 6 → Rose (H.faults host.old) (H.faults host.new) }
     ensures no_fault { H.steady host.old → HasFile (H.files host.old) file.now → H.faults host.new ≡ H.faults host.old }
-    ensures done { result.code ≡ 0 → H.err host.new ≡ H.err host.old }
+    ensures done { result.code ≡ 0 → HasRun (H.files host.old) file.now options.now choice.Done (H.out host.old) (H.out host.new) }
+    ensures trapped { result.code ≡ 4 → HasTrapped (H.files host.old) file.now options.now (H.out host.old) (H.out host.new) (H.faults host.old) (H.faults host.new) (H.err host.old) (H.err host.new) }
+    ensures spent { result.code ≡ 5 → HasSpent (H.files host.old) file.now options.now (H.out host.old) (H.out host.new) (H.faults host.old) (H.faults host.new) (H.err host.old) (H.err host.new) }
+    ensures part { Contains (6 ∷ 7 ∷ []) result.code → HasRunPartOrNot (H.files host.old) file.now options.now (H.out host.old) (H.out host.new) }
+    ensures done_line { result.code ≡ 0 → H.err host.new ≡ H.err host.old }
     ensures refused_line { result.code ≡ 1 → Complains (refusal_line file.now) (H.faults host.old) (H.faults host.new) (H.err host.old) (H.err host.new) }
-    ensures trap_line { result.code ≡ 4 → ComplainsOfTrap (H.faults host.old) (H.faults host.new) (H.err host.old) (H.err host.new) }
     ensures fault_line { result.code ≡ 6 → Complains fault_line (H.faults host.old) (H.faults host.new) (H.err host.old) (H.err host.new) }
     ensures later { H.faults host.old ≤ H.faults host.new }
     ensures steady { H.steady host.old → H.steady host.new }
     ensures files { H.files host.new ≡ H.files host.old }
     ensures out { result.code ≡ 1 → H.out host.new ≡ H.out host.old }
-    ensures refused { result.code ≡ 1 → IsRefused (H.files host.old) file.now }
-    ensures refused_only { MustBeRefused (H.files host.old) file.now → Contains (1 ∷ 6 ∷ 7 ∷ []) result.code }
 {
-    let outcome = outcome_of(alloc, file, host);
+    let outcome = outcome_of(alloc, file, options, host);
     report(alloc, file, outcome, host)
 }
 
 // Reads, compiles and runs the source in a file.
-fn outcome_of<H: Host>(alloc: Global, file: &str, host: &mut H) -> Outcome
+fn outcome_of<H: Host>(alloc: Global, file: &str, options: &SimOptions, host: &mut H) -> Outcome
+    requires range { AreInRange options.now }
+    ensures ended { HasEnded (H.files host.old) file.now options.now (H.out host.old) (H.out host.new) result }
+    ensures refused_only { MustBeRefused (H.files host.old) file.now → (result ≡ ended.Refused) ⊎ (result ≡ ended.NoMemory) ⊎ (result ≡ ended.Fault) }
     ensures fault { result ≡ ended.Fault → Rose (H.faults host.old) (H.faults host.new) }
     ensures no_fault { H.steady host.old → HasFile (H.files host.old) file.now → H.faults host.new ≡ H.faults host.old }
     ensures later { H.faults host.old ≤ H.faults host.new }
     ensures steady { H.steady host.old → H.steady host.new }
     ensures files { H.files host.new ≡ H.files host.old }
     ensures err { H.err host.new ≡ H.err host.old }
-    ensures out { result ≡ ended.Refused → H.out host.new ≡ H.out host.old }
-    ensures refused { result ≡ ended.Refused → IsRefused (H.files host.old) file.now }
-    ensures refused_only { MustBeRefused (H.files host.old) file.now → (result ≡ ended.Refused) ⊎ (result ≡ ended.NoMemory) ⊎ (result ≡ ended.Fault) }
 {
     match take_file(alloc, host, file, LIMIT) {
         Err(TakeFault::Fault) => Outcome::Fault,
         Err(TakeFault::TooLong) => Outcome::Refused,
         Err(TakeFault::NoMemory) => Outcome::NoMemory,
-        Ok(source) => outcome_of_source(alloc, source.as_slice(), host),
-    }
-}
-
-// Compiles and runs a source.
-fn outcome_of_source<H: Host>(alloc: Global, source: &[u8], host: &mut H) -> Outcome
-    ensures fault { result ≡ ended.Fault → Rose (H.faults host.old) (H.faults host.new) }
-    ensures no_fault { H.steady host.old → H.faults host.new ≡ H.faults host.old }
-    ensures later { H.faults host.old ≤ H.faults host.new }
-    ensures steady { H.steady host.old → H.steady host.new }
-    ensures files { H.files host.new ≡ H.files host.old }
-    ensures err { H.err host.new ≡ H.err host.old }
-    ensures out { result ≡ ended.Refused → H.out host.new ≡ H.out host.old }
-    ensures refused { result ≡ ended.Refused → HasNoProgram source.now }
-    ensures refused_only { HasNoProgram source.now → (result ≡ ended.Refused) ⊎ (result ≡ ended.NoMemory) }
-{
-    match read_thin(alloc, source) {
-        Err(SourceRefusal::Refused(_, _)) => Outcome::Refused,
-        Err(SourceRefusal::NoMemory) => Outcome::NoMemory,
-        Ok(program) => outcome_of_program(alloc, &program, host),
-    }
-}
-
-// Compiles and runs the program of a thin source.
-fn outcome_of_program<H: Host>(alloc: Global, program: &Program, host: &mut H) -> Outcome
-    requires words { all_words program.now.globals ≤ 2 ^ 20 }
-    requires room { All HasRoom program.now.globals }
-    ensures fault { result ≡ ended.Fault → Rose (H.faults host.old) (H.faults host.new) }
-    ensures no_fault { H.steady host.old → H.faults host.new ≡ H.faults host.old }
-    ensures later { H.faults host.old ≤ H.faults host.new }
-    ensures steady { H.steady host.old → H.steady host.new }
-    ensures files { H.files host.new ≡ H.files host.old }
-    ensures err { H.err host.new ≡ H.err host.old }
-    ensures read { result ≢ ended.Refused }
-{
-    match image_of(alloc, program) {
-        // A thin program lacks nothing but memory.
-        Err(_) => Outcome::NoMemory,
-        Ok(image) => match run(alloc, &image, host) {
-            Ok(()) => Outcome::Done,
-            Err(RunEnd::Trap(trap)) => Outcome::Trap(trap),
-            Err(RunEnd::Failed) => Outcome::Fault,
-            Err(RunEnd::NoMemory) => Outcome::NoMemory,
+        Ok(source) => match compile(alloc, source.as_slice()) {
+            Err(SourceRefusal::Refused(_, _)) => Outcome::Refused,
+            Err(SourceRefusal::NoMemory) => Outcome::NoMemory,
+            Ok(image) => outcome_of_image(alloc, &image, options, host),
         },
+    }
+}
+
+// Runs an image from its opening words.
+fn outcome_of_image<H: Host>(
+    alloc: Global,
+    image: &Image,
+    options: &SimOptions,
+    host: &mut H,
+) -> Outcome
+    requires range { AreInRange options.now }
+    requires small { IsSmall image.now }
+    ensures ended { HasEndedOn image.now options.now (H.out host.old) (H.out host.new) result }
+    ensures fault { result ≡ ended.Fault → Rose (H.faults host.old) (H.faults host.new) }
+    ensures no_fault { H.steady host.old → H.faults host.new ≡ H.faults host.old }
+    ensures later { H.faults host.old ≤ H.faults host.new }
+    ensures steady { H.steady host.old → H.steady host.new }
+    ensures files { H.files host.new ≡ H.files host.old }
+    ensures err { H.err host.new ≡ H.err host.old }
+{
+    let words = match Items::from_slice(alloc, image.words.as_slice()) {
+        Ok(words) => words,
+        Err(_) => return Outcome::NoMemory,
+    };
+    let seed = options.seed.unwrap_or(0);
+    match run_picked(alloc, image, Memory { words }, options, seed, host) {
+        SimEnd::Done(_) => Outcome::Done,
+        SimEnd::Trap(trap) => Outcome::Trap(trap),
+        SimEnd::Spent { unit, steps } => Outcome::Spent { unit, steps },
+        SimEnd::WriteFault => Outcome::Fault,
+        SimEnd::NoMemory => Outcome::NoMemory,
     }
 }
 
 // Complains of an outcome other than Done.
 fn report<H: Host>(alloc: Global, file: &str, outcome: Outcome, host: &mut H) -> Status
-    ensures codes { Contains (0 ∷ 1 ∷ 2 ∷ 4 ∷ 6 ∷ 7 ∷ []) result.code }
-    ensures is_job { result.code ≢ 2 }
-    ensures fault { result.code ≡ 6 → outcome ≡ ended.Fault }
+    ensures codes { Contains (0 ∷ 1 ∷ 4 ∷ 5 ∷ 6 ∷ 7 ∷ []) result.code }
+    ensures done { result.code ≡ 0 → outcome ≡ ended.Done }
     ensures refused { result.code ≡ 1 → outcome ≡ ended.Refused }
+    ensures trapped { result.code ≡ 4 → (trap : Trap) × (outcome ≡ ended.Trap trap) × Complains (trap_line trap) (H.faults host.old) (H.faults host.new) (H.err host.old) (H.err host.new) }
+    ensures spent { result.code ≡ 5 → (unit steps : ℕ) × (outcome ≡ ended.Spent unit steps) × Complains (spent_line unit steps) (H.faults host.old) (H.faults host.new) (H.err host.old) (H.err host.new) }
+    ensures fault { result.code ≡ 6 → outcome ≡ ended.Fault }
     ensures refused_only { (outcome ≡ ended.Refused) ⊎ (outcome ≡ ended.NoMemory) ⊎ (outcome ≡ ended.Fault) → Contains (1 ∷ 6 ∷ 7 ∷ []) result.code }
-    ensures done { result.code ≡ 0 → H.err host.new ≡ H.err host.old }
+    ensures done_line { result.code ≡ 0 → H.err host.new ≡ H.err host.old }
     ensures refused_line { result.code ≡ 1 → Complains (refusal_line file.now) (H.faults host.old) (H.faults host.new) (H.err host.old) (H.err host.new) }
-    ensures trap_line { result.code ≡ 4 → ComplainsOfTrap (H.faults host.old) (H.faults host.new) (H.err host.old) (H.err host.new) }
     ensures fault_line { result.code ≡ 6 → Complains fault_line (H.faults host.old) (H.faults host.new) (H.err host.old) (H.err host.new) }
     ensures no_fault { H.steady host.old → H.faults host.new ≡ H.faults host.old }
     ensures later { H.faults host.old ≤ H.faults host.new }
@@ -198,6 +203,10 @@ fn report<H: Host>(alloc: Global, file: &str, outcome: Outcome, host: &mut H) ->
         },
         Outcome::Trap(trap) => match trap_line(alloc, trap) {
             Ok(line) => complain(4, line.as_bytes(), host),
+            Err(_) => Status { code: 7 },
+        },
+        Outcome::Spent { unit, steps } => match spent_line(alloc, unit, steps) {
+            Ok(line) => complain(5, line.as_bytes(), host),
             Err(_) => Status { code: 7 },
         },
         Outcome::Fault => complain(6, HOST_FAULT, host),

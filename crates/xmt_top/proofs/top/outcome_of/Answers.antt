@@ -1,22 +1,37 @@
-use Rattle.std.proofs.Common.{◌^◌, inl, inr, sym, subst, rules, ⊎_elim}
+use Rattle.std.proofs.Common.{◌^◌, List, ℕ, subst, rules, Option, Err}
 use Rattle.xmt_base.specs.Host.{IsLonger}
+use Rattle.thin_source.specs.declared.source.SourceRefusal.{SourceRefusal}
+use Rattle.thin_source.specs.declared.source.SourceRefusal.TheVariants.{Refused}
 use Rattle.thin_source.specs.Thin.{HasNoProgram}
+use Rattle.xmt_compile.specs.Compiles.{IsCompiled, Compiles}
+use Rattle.xmt_top.specs.Outcomes.{HasEnded}
+use Rattle.xmt_top.proofs.Runs.{has_ended}
 use Rattle.xmt_top.proofs.Sources.{refused_longer, refused_whole, whole_refused}
 use Rattle.xmt_top.proofs.top.outcome_of.Goals as goal
 
-pub returns-in-Err-TooLong-clause-refused : goal.returns-in-Err-TooLong-clause-refused
-returns-in-Err-TooLong-clause-refused g c =
+pub returns-in-Err-TooLong-clause-ended : goal.returns-in-Err-TooLong-clause-ended
+returns-in-Err-TooLong-clause-ended g c =
     let longer : IsLonger (g.H.Host.files c.args.host.now) c.args.file.now (2 ^ 20) = search (rules, c.in-Err-TooLong.ensures.longer) in
-    λ is. refused_longer (g.H.Host.files c.args.host.now) c.args.file.now longer
+    (refused_longer (g.H.Host.files c.args.host.now) c.args.file.now longer, c.in-Err-TooLong.ensures.out)
 
-pub returns-in-Ok-clause-refused : goal.returns-in-Ok-clause-refused
-returns-in-Ok-clause-refused g c =
-    λ is.
-    refused_whole (g.H.Host.files c.args.host.now) c.args.file.now c.in-Ok.source.items c.in-Ok.ensures.whole
-    (subst HasNoProgram c.as_slice.ensures.value (c.outcome_of_source.ensures.refused is))
+pub returns-in-Err-Refused-clause-ended : goal.returns-in-Err-Refused-clause-ended
+returns-in-Err-Refused-clause-ended g c =
+    let refused : Compiles c.as_slice.result.now (Err (Refused c.in-Err-Refused.field-0-0 c.in-Err-Refused.field-0-1)) =
+    subst (λ (e : SourceRefusal). Compiles c.as_slice.result.now (Err e)) c.in-Err-Refused.field-0-is c.in-Err-Refused.ensures in (
+      refused_whole (g.H.Host.files c.args.host.now) c.args.file.now c.in-Ok.source.items c.in-Ok.ensures.whole (subst HasNoProgram c.as_slice.ensures.value refused.1),
+      c.take_file.ensures.out,
+    )
 
-pub returns-in-Ok-clause-refused_only : goal.returns-in-Ok-clause-refused_only
-returns-in-Ok-clause-refused_only g c =
-    λ must.
-    ⊎_elim (λ is. inl is) (λ is. inr (inl is))
-    (c.outcome_of_source.ensures.refused_only (subst HasNoProgram (sym c.as_slice.ensures.value) (whole_refused (g.H.Host.files c.args.host.now) c.args.file.now c.in-Ok.source.items must c.in-Ok.ensures.whole)))
+pub returns-clause-ended : goal.returns-clause-ended
+returns-clause-ended g c =
+    let image : IsCompiled c.in-Ok.source.items c.in-Ok-compile.image = subst (λ (source : List ℕ). IsCompiled source c.in-Ok-compile.image) c.as_slice.ensures.value c.in-Ok-compile.ensures in
+    subst
+    (λ (before : Option (List ℕ)). HasEnded (g.H.Host.files c.args.host.now) c.args.file.now c.args.options.now before (g.H.Host.out c.outcome_of_image.new.host) c.outcome_of_image.result)
+    c.take_file.ensures.out
+    (has_ended (g.H.Host.files c.args.host.now) c.args.file.now c.args.options.now c.requires.range c.in-Ok.source.items c.in-Ok.ensures.whole c.in-Ok-compile.image image (g.H.Host.out c.take_file.new.host)
+    (g.H.Host.out c.outcome_of_image.new.host) c.outcome_of_image.result c.outcome_of_image.ensures.ended)
+
+pub returns-clause-refused_only : goal.returns-clause-refused_only
+returns-clause-refused_only g c =
+    let image : IsCompiled c.in-Ok.source.items c.in-Ok-compile.image = subst (λ (source : List ℕ). IsCompiled source c.in-Ok-compile.image) c.as_slice.ensures.value c.in-Ok-compile.ensures in
+    λ must. absurd (whole_refused (g.H.Host.files c.args.host.now) c.args.file.now c.in-Ok.source.items must c.in-Ok.ensures.whole image.program image.is_program)

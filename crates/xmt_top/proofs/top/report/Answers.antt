@@ -1,15 +1,19 @@
-use Rattle.std.proofs.Common.{ℕ, List, [], ◌∷◌, refl, arith}
-use Rattle.xmt_top.proofs.Codes.{code_or}
+use Rattle.std.proofs.Common.{◌∙◌, ℕ, List, inl, inr, subst, arith}
+use Rattle.xmt_top.specs.Complaints.{Complains}
 use Rattle.xmt_top.proofs.top.report.Goals as goal
 
-abbrev codes : List ℕ
-codes = 0 ∷ 1 ∷ 2 ∷ 4 ∷ 6 ∷ 7 ∷ []
-
-pub returns-in-Ok-trap_line-clause-codes : goal.returns-in-Ok-trap_line-clause-codes
-returns-in-Ok-trap_line-clause-codes g c = code_or codes 4 _ (3, omega arith, refl) (5, omega arith, refl) c.complain-in-Ok-trap_line.ensures.code
-
-pub returns-in-Fault-clause-codes : goal.returns-in-Fault-clause-codes
-returns-in-Fault-clause-codes g c = code_or codes 6 _ (4, omega arith, refl) (5, omega arith, refl) c.complain-in-Fault.ensures.code
-
-pub returns-in-NoMemory-clause-codes : goal.returns-in-NoMemory-clause-codes
-returns-in-NoMemory-clause-codes g c = code_or codes 7 _ (5, omega arith, refl) (5, omega arith, refl) c.complain-in-NoMemory.ensures.code
+pub returns-in-Ok-spent_line-clause-spent : goal.returns-in-Ok-spent_line-clause-spent
+returns-in-Ok-spent_line-clause-spent g c =
+    λ five.
+    elim c.complain-in-Ok-spent_line.ensures.line [
+      | inl seven ↦ absurd (omega (arith, five, seven))
+      | inr told ↦ (
+        c.in-Spent.unit,
+        c.in-Spent.steps,
+        c.in-Spent.is,
+        subst
+            (λ (line : List ℕ).
+            Complains line (g.H.Host.faults c.args.host.now) (g.H.Host.faults c.complain-in-Ok-spent_line.new.host) (g.H.Host.err c.args.host.now) (g.H.Host.err c.complain-in-Ok-spent_line.new.host))
+            (c.as_bytes-in-Ok-spent_line.ensures.value ∙ c.in-Ok-spent_line.ensures) told,
+      )
+    ]

@@ -1,9 +1,18 @@
-use Rattle.std.proofs.Common.{ℕ, List, [], ◌∷◌, refl, arith}
-use Rattle.xmt_top.proofs.Codes.{code_or}
+use Rattle.std.proofs.Common.{[], ◌∷◌, Contains, map, string_bytes, refl, arith}
+use Rattle.xmt_isa.specs.declared.run.SimOptions.{SimOptions}
+use Rattle.xmt_cli.specs.Given.{Text}
+use Rattle.xmt_top.specs.Sources.{MustBeRefused}
+use Rattle.xmt_top.proofs.Codes.{code_or, more_codes}
+use Rattle.xmt_top.proofs.Jobs.{for_any}
 use Rattle.xmt_top.proofs.top.xmt.Goals as goal
 
-abbrev codes : List ℕ
-codes = 0 ∷ 1 ∷ 2 ∷ 4 ∷ 6 ∷ 7 ∷ []
+pub returns-in-Err-NotAJob-clause-codes : goal.returns-in-Err-NotAJob-clause-codes
+returns-in-Err-NotAJob-clause-codes g c = code_or (0 ∷ 1 ∷ 2 ∷ 4 ∷ 5 ∷ 6 ∷ 7 ∷ []) 2 _ (2, omega arith, refl) (6, omega arith, refl) c.complain.ensures.code
 
-pub returns-in-None-clause-codes : goal.returns-in-None-clause-codes
-returns-in-None-clause-codes g c = code_or codes 2 _ (2, omega arith, refl) (5, omega arith, refl) c.complain.ensures.code
+pub returns-in-Err-NoMemory-clause-refused_only : goal.returns-in-Err-NoMemory-clause-refused_only
+returns-in-Err-NoMemory-clause-refused_only g c =
+    for_any (map string_bytes c.args.words.now) (λ (file : Text) (options : SimOptions). MustBeRefused (g.H.Host.files c.args.host.now) file → Contains (1 ∷ 6 ∷ 7 ∷ []) c.complain-in-Err-NoMemory.result.code)
+    (λ file options must. code_or (1 ∷ 6 ∷ 7 ∷ []) 7 _ (2, omega arith, refl) (2, omega arith, refl) c.complain-in-Err-NoMemory.ensures.code)
+
+pub returns-in-Ok-Run-clause-codes : goal.returns-in-Ok-Run-clause-codes
+returns-in-Ok-Run-clause-codes g c = more_codes _ c.run_file.ensures.codes
