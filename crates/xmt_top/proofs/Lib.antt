@@ -1,5 +1,6 @@
 mod Codes
 mod Complaints
+mod Completeness
 mod Jobs
 mod Runs
 mod Sources

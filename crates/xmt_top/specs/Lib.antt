@@ -4,3 +4,4 @@ pub mod Sources
 pub mod Streams
 pub mod Runs
 pub mod Outcomes
+pub mod Completeness

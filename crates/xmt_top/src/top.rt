@@ -9,6 +9,7 @@ ghost use Rattle.xmt_top.specs.declared.top.Outcome.TheVariants as ended;
 ghost use Rattle.xmt_top.specs.Runs.{ForJob, HasRun, HasRunPartOrNot, HasTrapped, HasSpent};
 ghost use Rattle.xmt_top.specs.Outcomes.{HasEnded, HasEndedOn};
 ghost use Rattle.xmt_top.specs.Sources.{IsRefused, MustBeRefused};
+ghost use Rattle.xmt_top.specs.Completeness.{IsAccepted, MustEnd};
 ghost use Rattle.xmt_top.specs.Complaints.{Complains};
 ghost use Rattle.xmt_top.specs.Messages.{no_job_line, fault_line, refusal_line, trap_line, spent_line};
 
@@ -57,6 +58,10 @@ pub fn xmt<H: Host>(alloc: Global, words: &[String], host: &mut H) -> Status
     ensures refused { result.code ≡ 1 → ForJob (map string_bytes words.now) (λ file options. IsRefused (H.files host.old) file) }
     ensures refused_only { ForJob (map string_bytes words.now) (λ file options. MustBeRefused (H.files host.old) file → Contains (1 ∷ 6 ∷ 7 ∷ []) result.code) }
     ensures fault { result.code ≡ 6 → Rose (H.faults host.old) (H.faults host.new) }
+    // Where the host meets no fault, a source ends with 0, 4 or 5, and with 0 where it neither traps nor takes more steps
+    // than the budget is enough for.
+    ensures accepted { ¬ Rose (H.faults host.old) (H.faults host.new) → ForJob (map string_bytes words.now) (λ file options. IsAccepted (H.files host.old) file → Contains (0 ∷ 4 ∷ 5 ∷ 7 ∷ []) result.code) }
+    ensures complete { ¬ Rose (H.faults host.old) (H.faults host.new) → ForJob (map string_bytes words.now) (λ file options. MustEnd (H.files host.old) file options.budget → Contains (0 ∷ 7 ∷ []) result.code) }
     ensures no_fault { H.steady host.old → ForJob (map string_bytes words.now) (λ file options. HasFile (H.files host.old) file) → H.faults host.new ≡ H.faults host.old }
 
     // What a run has done, in words of the source, and the line on the error stream.
@@ -105,6 +110,8 @@ fn run_file<H: Host>(alloc: Global, file: &str, options: &SimOptions, host: &mut
     ensures refused { result.code ≡ 1 → IsRefused (H.files host.old) file.now }
     ensures refused_only { MustBeRefused (H.files host.old) file.now → Contains (1 ∷ 6 ∷ 7 ∷ []) result.code }
     ensures fault { result.code ≡ 6 → Rose (H.faults host.old) (H.faults host.new) }
+    ensures accepted { ¬ Rose (H.faults host.old) (H.faults host.new) → IsAccepted (H.files host.old) file.now → Contains (0 ∷ 4 ∷ 5 ∷ 7 ∷ []) result.code }
+    ensures complete { ¬ Rose (H.faults host.old) (H.faults host.new) → MustEnd (H.files host.old) file.now options.now.budget → Contains (0 ∷ 7 ∷ []) result.code }
     ensures no_fault { H.steady host.old → HasFile (H.files host.old) file.now → H.faults host.new ≡ H.faults host.old }
     ensures done { result.code ≡ 0 → HasRun (H.files host.old) file.now options.now choice.Done (H.out host.old) (H.out host.new) }
     ensures trapped { result.code ≡ 4 → HasTrapped (H.files host.old) file.now options.now (H.out host.old) (H.out host.new) (H.faults host.old) (H.faults host.new) (H.err host.old) (H.err host.new) }

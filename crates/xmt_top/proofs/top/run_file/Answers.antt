@@ -5,6 +5,7 @@ use Rattle.xmt_top.specs.Messages.{spent_line}
 use Rattle.xmt_top.specs.Runs.{HasRun, HasRunPartOrNot}
 use Rattle.xmt_top.specs.Outcomes.{HasEnded}
 use Rattle.xmt_top.proofs.Complaints.{complains_earlier}
+use Rattle.xmt_top.proofs.Completeness.{runs, comes_to_its_end}
 use Rattle.xmt_top.proofs.Runs.{part_of}
 use Rattle.xmt_top.proofs.top.run_file.Goals as goal
 
@@ -26,3 +27,18 @@ returns-clause-part g c =
     λ six.
     subst (λ (now : Option (List ℕ)). HasRunPartOrNot (g.H.Host.files c.args.host.now) c.args.file.now c.args.options.now (g.H.Host.out c.args.host.now) now) (sym c.report.ensures.out)
     (part_of (g.H.Host.files c.args.host.now) c.args.file.now c.args.options.now (g.H.Host.out c.args.host.now) (g.H.Host.out c.outcome_of-outcome.new.host) c.outcome_of-outcome.result c.outcome_of-outcome.ensures.ended)
+
+pub returns-clause-accepted : goal.returns-clause-accepted
+returns-clause-accepted g c =
+    λ calm accepted.
+    runs (g.H.Host.files c.args.host.now) c.args.file.now c.args.options.now (g.H.Host.out c.args.host.now) (g.H.Host.out c.outcome_of-outcome.new.host) c.outcome_of-outcome.result
+    c.outcome_of-outcome.ensures.ended c.report.result.code c.report.ensures.codes c.report.ensures.refused c.report.ensures.fault (g.H.Host.faults c.args.host.now) (g.H.Host.faults c.outcome_of-outcome.new.host)
+    (g.H.Host.faults c.report.new.host) c.outcome_of-outcome.ensures.fault c.report.ensures.later calm (λ program. Unit {0}) accepted
+
+pub returns-clause-complete : goal.returns-clause-complete
+returns-clause-complete g c =
+    λ calm must.
+    comes_to_its_end (g.H.Host.files c.args.host.now) c.args.file.now c.args.options.now (g.H.Host.out c.args.host.now) (g.H.Host.out c.outcome_of-outcome.new.host) c.outcome_of-outcome.result
+    c.outcome_of-outcome.ensures.ended c.report.result.code c.report.ensures.codes c.report.ensures.refused c.report.ensures.fault (g.H.Host.faults c.args.host.now) (g.H.Host.faults c.outcome_of-outcome.new.host)
+    (g.H.Host.faults c.report.new.host) c.outcome_of-outcome.ensures.fault c.report.ensures.later calm must
+    (λ four. let told = c.report.ensures.trapped four in (told.0, told.1)) (λ five. let told = c.report.ensures.spent five in (told.0, told.1, told.2))
