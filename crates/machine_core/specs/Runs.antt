@@ -32,9 +32,11 @@ pub record HasEnded (image : Image) (budget : ℕ) (begin : PickedRun) (end : Ch
   pub within : IsWithin budget machine.units.items
   pub printed : Prints out before now
 
--- a prefix of what the picked run prints went to the host
-abbrev pub PrintsPicked : Image → ℕ → PickedRun → Option (List ℕ) → Option (List ℕ) → Type 0
-PrintsPicked image budget begin before now = (choices : ℕ) × PrintsPart (picked image budget begin choices).machine.out before now
+-- after some number of choices, to which a legal schedule leads, a prefix of what the picked run has printed went to the host
+pub record PrintsPicked (image : Image) (budget : ℕ) (begin : PickedRun) (before now : Option (List ℕ)) : Type 0 where
+  pub choices : ℕ
+  pub legal : RunsTo image begin.machine (picked image budget begin choices).machine
+  pub printed : PrintsPart (picked image budget begin choices).machine.out before now
 
 -- the data words of a table of words
 abbrev pub data_words : Image → List ℕ → List ℕ

@@ -19,7 +19,7 @@ use Rattle.xmt_base.specs.Picker as picker
 use Rattle.machine_runs.proofs.Opens.{control_units-length}
 use Rattle.machine_runs.proofs.Runs.{after-length, all_have_logs}
 use Rattle.xmt_compile.specs.Implements.{Implements, Matches, reached}
-use Rattle.xmt_compile.specs.Ended.{EndsSo, HasDone}
+use Rattle.xmt_compile.specs.Ended.{EndsSo, HasDone, HasPrinted}
 use Rattle.xmt_compile.proofs.Drawn.{both_true}
 use Rattle.xmt_compile.proofs.Lists.{count_cons}
 
@@ -118,3 +118,9 @@ module _ (program : Program) (image : Image) (implements : Implements program im
         ends = by_finds s.0 s.1 _ _ refl refl end same not_on;
         rising = s.1.rising;
       }
+
+  -- wherever the run has come, the source has printed the same
+  pub picked_prints : HasPrinted program memory n r.machine.out
+  picked_prints =
+      let s = subst (λ m. (schedule : List ℕ) × Matches program image memory n m schedule) runs.2 (implements.runs memory n runs.0 size some most runs.1) in
+      record { schedule = s.0; legal = s.1.legal; printed = s.1.printed; rising = s.1.rising }

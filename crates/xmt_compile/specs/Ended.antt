@@ -24,3 +24,10 @@ pub record HasDone (program : Program) (memory : List ℕ) (units budget : ℕ) 
   pub printed : (reached program memory schedule).output ≡ output
   pub ends : EndsSo program (reached program memory schedule) (length schedule) budget end
   pub rising : units ≡ 1 → schedule ≡ source.rising program (start program memory) (length schedule)
+
+-- The same, wherever the run has come.
+pub record HasPrinted (program : Program) (memory : List ℕ) (units : ℕ) (output : List ℕ) : Type 0 where
+  pub schedule : List ℕ
+  pub legal : source.IsLegal program (start program memory) schedule
+  pub printed : (reached program memory schedule).output ≡ output
+  pub rising : units ≡ 1 → schedule ≡ source.rising program (start program memory) (length schedule)

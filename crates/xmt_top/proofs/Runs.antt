@@ -11,9 +11,9 @@ use Rattle.xmt_isa.specs.Opening.{opening}
 use Rattle.xmt_isa.specs.Legal.{RunsTo}
 use Rattle.xmt_isa.specs.Picked.{PickedRun, picked}
 use Rattle.xmt_compile.specs.Compiles.{IsCompiled}
-use Rattle.xmt_compile.specs.Ended.{HasDone}
+use Rattle.xmt_compile.specs.Ended.{HasDone, HasPrinted}
 use Rattle.xmt_compile.proofs.Compiled.{opening_size}
-use Rattle.xmt_compile.proofs.Picked.{picked_ends}
+use Rattle.xmt_compile.proofs.Picked.{picked_ends, picked_prints}
 use Rattle.xmt_cli.specs.Given.{Text}
 use Rattle.xmt_cli.specs.JobOf.{AreInRange}
 use Rattle.xmt_top.specs.declared.top.Outcome.{Outcome}
@@ -48,7 +48,24 @@ module _ (files : Option FileMap) (file : Text) (options : SimOptions) (range : 
 
   has_part : HasPickedPart image options before now → HasRunPartOrNot files file options before now
   has_part (inl same) = inl same
-  has_part (inr h) = inr (record { source = source; whole = whole; program = is.program; is_program = is.is_program; image = image; implements = is.implements; printed = h })
+  has_part (inr h) =
+      let words : image.words ≡ opening_words is.program.globals = is.implements.opens.words in
+      let run : PickedRun = picked image options.budget begin h.choices in
+      let printed : HasPrinted is.program image.words options.units run.machine.out =
+      picked_prints is.program image is.implements image.words options.units options.budget (ap length words ∙ opening_size source is.program is.is_program) range.0 range.1 run h.legal in
+      inr (record {
+        source = source;
+        whole = whole;
+        program = is.program;
+        is_program = is.is_program;
+        image = image;
+        implements = is.implements;
+        output = run.machine.out;
+        choices = h.choices;
+        is_picked = refl;
+        does = subst (λ memory. HasPrinted is.program memory options.units run.machine.out) words printed;
+        printed = h.printed;
+      })
 
   pub has_ended : (o : Outcome) → HasEndedOn image options before now o → HasEnded files file options before now o
   has_ended Done h = has_run choice.Done (λ k e. cc) h
@@ -73,7 +90,11 @@ module _ (files : Option FileMap) (file : Text) (options : SimOptions) (before n
         is_program = h.is_program;
         image = h.image;
         implements = h.implements;
-        printed = (h.is_picked.choices, whole_part (picked h.image options.budget (picked_run h.image options) h.is_picked.choices).machine.out (subst (λ b. Writes b before now) (sym h.is_picked.printed) h.printed));
+        output = h.output;
+        choices = h.is_picked.choices;
+        is_picked = h.is_picked.printed;
+        does = record { schedule = h.does.schedule; legal = h.does.legal; printed = h.does.printed; rising = h.does.rising };
+        printed = whole_part h.output h.printed;
       })
 
   -- of whatever outcome, a prefix was written, or nothing

@@ -11,13 +11,12 @@ use Rattle.xmt_isa.specs.declared.run.Choice.TheVariants as choice
 use Rattle.xmt_isa.specs.declared.run.SimOptions.{SimOptions}
 use Rattle.xmt_isa.specs.Opening.{begins}
 use Rattle.xmt_isa.specs.Picked.{PickedRun, picked, choice_of}
-use Rattle.machine_core.specs.Runs.{PrintsPicked}
 use Rattle.thin_source.specs.Thin.{IsThin}
 use Rattle.xmt_compile.specs.Implements.{Implements}
-use Rattle.xmt_compile.specs.Ended.{HasDone}
+use Rattle.xmt_compile.specs.Ended.{HasDone, HasPrinted}
 use Rattle.xmt_cli.specs.Given.{Text}
 use Rattle.xmt_cli.specs.JobOf.{Task, run, task_of}
-use Rattle.xmt_top.specs.Streams.{Writes}
+use Rattle.xmt_top.specs.Streams.{Writes, WritesPart}
 use Rattle.xmt_top.specs.Complaints.{Complains}
 use Rattle.xmt_top.specs.Messages.{trap_line, spent_line}
 
@@ -52,7 +51,7 @@ pub record HasRun (files : Option FileMap) (file : Text) (options : SimOptions) 
   pub does : HasDone program (opening_words program.globals) options.units options.budget end output
   pub printed : Writes output before now
 
--- a prefix of what such a run prints was written
+-- Such a run has come so far that by some legal schedule the program prints this, of which a prefix was written.
 pub record HasRunPart (files : Option FileMap) (file : Text) (options : SimOptions) (before now : Option (List ℕ)) : Type 0 where
   pub source : List ℕ
   pub whole : IsWholeFile files file source
@@ -60,7 +59,11 @@ pub record HasRunPart (files : Option FileMap) (file : Text) (options : SimOptio
   pub is_program : IsThin source program
   pub image : Image
   pub implements : Implements program image
-  pub printed : PrintsPicked image options.budget (picked_run image options) before now
+  pub output : List ℕ
+  pub choices : ℕ
+  pub is_picked : (picked image options.budget (picked_run image options) choices).machine.out ≡ output
+  pub does : HasPrinted program (opening_words program.globals) options.units output
+  pub printed : WritesPart output before now
 
 -- nothing was written, or such a prefix
 abbrev pub HasRunPartOrNot : Option FileMap → Text → SimOptions → (before now : Option (List ℕ)) → Type 0
