@@ -1,0 +1,10 @@
+pub mod Chain
+pub mod Parted
+pub mod Complete
+pub mod Sound
+pub mod CompleteStatements
+pub mod SoundStatements
+pub mod CompleteItems
+pub mod SoundItems
+pub mod Program
+pub mod Loops

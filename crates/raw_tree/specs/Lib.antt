@@ -1,0 +1,9 @@
+pub mod Level
+pub mod Grammar
+pub mod Statements
+pub mod Items
+pub mod Reading
+pub mod ReadingStatements
+pub mod ReadingItems
+pub mod Passes
+pub mod Gives

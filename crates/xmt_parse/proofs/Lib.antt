@@ -1,9 +1,0 @@
-pub mod Chain
-pub mod Parted
-pub mod Complete
-pub mod Sound
-pub mod CompleteStatements
-pub mod SoundStatements
-pub mod CompleteItems
-pub mod SoundItems
-pub mod Program
