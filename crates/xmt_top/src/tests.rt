@@ -6,6 +6,8 @@ use xmt_base::{HostCall, MemoryHost};
 const SQUARES: &str =
     "int A[4]; int s; main() { spawn(0, 3) { A[$] = $ * $ + 1; } s = A[0] + A[1] + A[2] + A[3]; printf(\"%d\\n\", s); }";
 
+const RACE: &str = "int x; main() { spawn(0, 1) { x = $; } printf(\"%d\\n\", x); }";
+
 const NOT_THIN: &str = "xmt: p.xmtc:1:1: NotThin\n";
 
 const NO_JOB: &str = "xmt: words are no command; commands are cc, sim, run, asm, dis, ref, gen\n";
@@ -182,7 +184,7 @@ fn sources_run_on_any_units(rt: HostRuntime) -> Result<(), Fail> {
 #[test]
 fn options_hold(rt: HostRuntime) -> Result<(), Fail> {
     let many = "main() { spawn(0, 9999) { } }";
-    let rows: [(&str, &str, u8, &str, &str); 8] = [
+    let rows: [(&str, &str, u8, &str, &str); 10] = [
         // one unit runs the threads in rising order
         (
             "run p.xmtc --units 1",
@@ -229,6 +231,14 @@ fn options_hold(rt: HostRuntime) -> Result<(), Fail> {
             "xmt: budget spent by unit 0 after 20 steps\n",
         ),
         ("run --units 3 --seed 9 p.xmtc", SQUARES, 0, "18\n", ""),
+        (
+            "run --units 64 p.xmtc",
+            "int x; main() { spawn(0, 0) { x = 5; } printf(\"%d\\n\", x); }",
+            0,
+            "5\n",
+            "",
+        ),
+        ("run p.xmtc --units 1", RACE, 0, "1\n", ""),
     ];
     for (line, source, code, out, err) in rows {
         let (found, host) = run(&rt, line, source.as_bytes(), None)?;
@@ -239,21 +249,25 @@ fn options_hold(rt: HostRuntime) -> Result<(), Fail> {
     Ok(())
 }
 
-// A source whose output hangs on the schedule prints the same with the same seed.
+// Two threads that race print 0 or 1, and each comes with some seed; the same seed prints the same.
 #[test]
 fn seeds_pick_the_run(rt: HostRuntime) -> Result<(), Fail> {
-    let source = "int x; main() { spawn(0, 7) { x = x * 3 + $; } printf(\"%d\\n\", x); }";
-    let lines = [
-        "run p.xmtc --units 4 --seed 1",
-        "run p.xmtc --units 4 --seed 2",
-        "run p.xmtc",
-    ];
-    for line in lines {
-        let (code, first) = run(&rt, line, source.as_bytes(), None)?;
-        let (_, second) = run(&rt, line, source.as_bytes(), None)?;
-        assert_eq!(rt; code, 0, "{line}");
-        assert!(rt; first.out.as_slice() == second.out.as_slice(), "{line}");
+    let alloc = rt.alloc();
+    let (mut zeros, mut ones) = (0, 0);
+    for seed in 0..20 {
+        let line = format!(in alloc; "run p.xmtc --units 2 --seed {seed}")?;
+        let (code, first) = run(&rt, line.as_str(), RACE.as_bytes(), None)?;
+        let (_, second) = run(&rt, line.as_str(), RACE.as_bytes(), None)?;
+        assert_eq!(rt; code, 0);
+        assert!(rt; first.out.as_slice() == second.out.as_slice());
+        match first.out.as_slice() {
+            b"0\n" => zeros += 1,
+            b"1\n" => ones += 1,
+            _ => assert!(rt; false, "another output"),
+        }
     }
+    assert!(rt; zeros > 0 && ones > 0);
+    assert_eq!(rt; zeros + ones, 20);
     Ok(())
 }
 
