@@ -253,7 +253,7 @@ fn options_hold(rt: HostRuntime) -> Result<(), Fail> {
 #[test]
 fn seeds_pick_the_run(rt: HostRuntime) -> Result<(), Fail> {
     let alloc = rt.alloc();
-    let (mut zeros, mut ones) = (0, 0);
+    let (mut zero, mut one) = (false, false);
     for seed in 0..20 {
         let line = format!(in alloc; "run p.xmtc --units 2 --seed {seed}")?;
         let (code, first) = run(&rt, line.as_str(), RACE.as_bytes(), None)?;
@@ -261,13 +261,12 @@ fn seeds_pick_the_run(rt: HostRuntime) -> Result<(), Fail> {
         assert_eq!(rt; code, 0);
         assert!(rt; first.out.as_slice() == second.out.as_slice());
         match first.out.as_slice() {
-            b"0\n" => zeros += 1,
-            b"1\n" => ones += 1,
+            b"0\n" => zero = true,
+            b"1\n" => one = true,
             _ => assert!(rt; false, "another output"),
         }
     }
-    assert!(rt; zeros > 0 && ones > 0);
-    assert_eq!(rt; zeros + ones, 20);
+    assert!(rt; zero && one);
     Ok(())
 }
 
