@@ -1,0 +1,13 @@
+pub mod SameTokens
+pub mod Bytes
+pub mod Pieces
+pub mod Steps
+pub mod Linked
+pub mod Lexed
+pub mod Parts
+pub mod SideBySide
+pub mod Open
+pub mod Raw
+pub mod MainWord
+pub mod Whole
+pub mod NotRefused

@@ -1,0 +1,24 @@
+-- The tokens of the whole language that parts of a thin source are, one behind the other.
+use Rattle.std.proofs.Common.{◌≡◌, ◌⊎◌, ◌∷◌, ◌++◌, append_assoc, Some, ap, ◌∙◌, arith}
+use Rattle.std.proofs.lemmas.List.{map-append}
+use Rattle.xmt_base.specs.declared.operators.BinOp.{BinOp}
+use Rattle.thin_source.specs.Grammar.{product_op, sum_op}
+use Rattle.thin_source.specs.Grammar as thin
+use Rattle.xmt_lex.specs.declared.TokenKind.TheVariants as kind
+use Rattle.xmt_lex.specs.declared.kinds.Mark.TheVariants as m
+use Rattle.raw_tree.specs.Level.{Tokens}
+use Rattle.thin_spelled.proofs.SameTokens.{Kind, Token, whole_kind, whole_token, whole_tokens}
+
+-- a part, a token and a part, with what stands behind
+pub over : (x : thin.Tokens) (c : Token) (y : thin.Tokens) (r : Tokens) → whole_tokens (x ++ c ∷ y) ++ r ≡ whole_tokens x ++ (whole_token c ∷ (whole_tokens y ++ r))
+over x c y r = ap (λ (us : Tokens). us ++ r) (map-append whole_token x (c ∷ y)) ∙ append_assoc (whole_tokens x) (whole_token c ∷ whole_tokens y) r
+
+pub beside : (x y : thin.Tokens) (r : Tokens) → whole_tokens (x ++ y) ++ r ≡ whole_tokens x ++ (whole_tokens y ++ r)
+beside x y r = ap (λ (us : Tokens). us ++ r) (map-append whole_token x y) ∙ append_assoc (whole_tokens x) (whole_tokens y) r
+
+-- the operators
+pub product_kind : (k : Kind) (o : BinOp) → product_op k ≡ Some o → whole_kind k ≡ kind.Mark m.Star
+product_kind k o h = grind (arith, h)
+
+pub sum_kind : (k : Kind) (o : BinOp) → sum_op k ≡ Some o → (whole_kind k ≡ kind.Mark m.Plus) ⊎ (whole_kind k ≡ kind.Mark m.Minus)
+sum_kind k o h = grind (arith, h)

@@ -1,0 +1,11 @@
+pub mod Bytes
+pub mod Signs
+pub mod Quotes
+pub mod Comments
+pub mod Front
+pub mod View
+pub mod Numbers
+pub mod HashEnds
+pub mod HashLines
+pub mod Parted
+pub mod Rows

@@ -1,0 +1,3 @@
+pub mod Spelling
+pub mod HashLine
+pub mod Longest
