@@ -1,0 +1,7 @@
+pub mod Weights
+pub mod StatementWeights
+pub mod Registers
+pub mod StatementRegisters
+pub mod Names
+pub mod StatementNames
+pub mod ProgramNames

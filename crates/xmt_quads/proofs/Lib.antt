@@ -1,0 +1,3 @@
+pub mod OwnSlots
+mod RowTraces
+mod RowLive
