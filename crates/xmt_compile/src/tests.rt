@@ -1,17 +1,15 @@
 use super::*;
 use std::test::Fail;
-use thin_source::{SourceKind, SourceRefusal};
 use xmt_base::Place;
 
 // Sources, and how many instructions, words and names their images have, or none.
 #[test]
 fn sources_are_compiled(rt: HostRuntime) -> Result<(), Fail> {
-    let rows: [(&str, Option<(usize, usize, usize)>); 6] = [
+    let rows: [(&str, Option<(usize, usize, usize)>); 5] = [
         ("main(){}", Some((1, 0, 0))),
         ("int x; int A[3]; main() { }", Some((1, 4, 2))),
         ("int x; main() { x = 5; }", Some((3, 1, 1))),
         ("main() { spawn(0, 3) { } }", Some((5, 0, 0))),
-        ("", None),
         ("main() { while (1) ; }", None),
     ];
     for (source, expected) in rows {

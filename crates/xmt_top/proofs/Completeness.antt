@@ -1,6 +1,7 @@
 -- Which codes a source that must run or must end can have.
 use Rattle.std.proofs.Common.{◌≡◌, subst, refl, arith, ℕ, ◌≤◌, ◌+◌, ◌*◌, List, [], ◌∷◌, length, Contains, Option, Some, None}
 use Rattle.std.specs.Prelude.{IsSomeAnd}
+use Rattle.xmt_base.specs.declared.values.Place.{Place}
 use Rattle.xmt_base.specs.declared.values.Trap.{Trap}
 use Rattle.xmt_base.specs.Host.{FileMap, IsWholeFile, Rose}
 use Rattle.source_meaning.specs.declared.tree.Program.{Program}
@@ -9,7 +10,8 @@ use Rattle.thin_source.proofs.Whole.{one_program}
 use Rattle.xmt_isa.specs.declared.run.Choice.TheVariants as choice
 use Rattle.xmt_isa.specs.declared.run.SimOptions.{SimOptions}
 use Rattle.xmt_top.specs.Completeness.{HasProgramIn, EndsWithin, MustEnd}
-use Rattle.xmt_top.specs.Sources.{IsRefused}
+use Rattle.front_end.specs.declared.refusal.SourceKind.{SourceKind}
+use Rattle.xmt_top.specs.Sources.{Breaks, IsRefused}
 use Rattle.xmt_top.specs.declared.top.Outcome.{Outcome}
 use Rattle.xmt_top.specs.declared.top.Outcome.TheVariants as outcome
 use Rattle.xmt_top.specs.Runs.{HasRun}
@@ -19,13 +21,13 @@ use Rattle.xmt_top.proofs.Complaints.{rose_later}
 
 module _ (P : Program → Type 0) (name : List ℕ) where
   -- a file that holds a source isn't refused
-  pub not_refused : (told : Option FileMap) → HasProgramIn told name P → IsRefused told name → ⊥
-  not_refused None has refused = absurd has
-  not_refused (Some files) has refused = by_file (files name) has (refused files refl)
+  pub not_refused : (told : Option FileMap) (kind : SourceKind) (place : Place) → HasProgramIn told name P → IsRefused told name kind place → ⊥
+  not_refused None kind place has refused = absurd has
+  not_refused (Some files) kind place has refused = by_file (files name) has (refused files refl)
     where
-      by_file : (o : Option (List ℕ)) → IsSomeAnd o (λ source. (program : Program) × IsThin source program × P program) → IsSomeAnd o (λ source. (program : Program) → ¬ IsThin source program) → ⊥
+      by_file : (o : Option (List ℕ)) → IsSomeAnd o (λ source. (program : Program) × IsThin source program × P program) → IsSomeAnd o (Breaks kind place) → ⊥
       by_file None has none = absurd has
-      by_file (Some source) has none = none has.0 has.1
+      by_file (Some source) has none = none.1 has.0 has.1
 
   -- the program of the whole file is that one
   of_whole : (told : Option FileMap) (source : List ℕ) (program : Program) → HasProgramIn told name P → IsWholeFile told name source → IsThin source program → P program
@@ -56,13 +58,13 @@ module _ (told : Option FileMap) (name : List ℕ) (options : SimOptions) (befor
 
 -- what is known of a run of a file, and of what was told of it
 module _ (told : Option FileMap) (name : List ℕ) (options : SimOptions) (before now : Option (List ℕ)) (o : Outcome) (ended : HasEnded told name options before now o)
-    (code : ℕ) (codes : Contains (0 ∷ 1 ∷ 4 ∷ 5 ∷ 6 ∷ 7 ∷ []) code) (refused : code ≡ 1 → o ≡ outcome.Refused) (fault : code ≡ 6 → o ≡ outcome.Fault)
+    (code : ℕ) (codes : Contains (0 ∷ 1 ∷ 4 ∷ 5 ∷ 6 ∷ 7 ∷ []) code) (refused : code ≡ 1 → (kind : SourceKind) × (place : Place) × (o ≡ outcome.Refused kind place)) (fault : code ≡ 6 → o ≡ outcome.Fault)
     (faults_before faults_mid faults_now : ℕ) (rose : o ≡ outcome.Fault → Rose faults_before faults_mid) (less : faults_mid ≤ faults_now) (calm : ¬ Rose faults_before faults_now) where
   abbrev Ended : Outcome → Type 0
   Ended = HasEnded told name options before now
 
   pub runs : (P : Program → Type 0) → HasProgramIn told name P → Contains (0 ∷ 4 ∷ 5 ∷ 7 ∷ []) code
-  runs P has = but_one_and_six code codes (λ one. not_refused P name told has (subst Ended (refused one) ended).0) (λ six. calm (rose_later faults_before faults_mid faults_now less (rose (fault six))))
+  runs P has = but_one_and_six code codes (λ one. let r = refused one in not_refused P name told r.0 r.1 has (subst Ended r.2 ended).0) (λ six. calm (rose_later faults_before faults_mid faults_now less (rose (fault six))))
 
   pub comes_to_its_end : MustEnd told name options.budget → (code ≡ 4 → (trap : Trap) × (o ≡ outcome.Trap trap)) → (code ≡ 5 → (unit steps : ℕ) × (o ≡ outcome.Spent unit steps)) → Contains (0 ∷ 7 ∷ []) code
   comes_to_its_end must trapped spent =

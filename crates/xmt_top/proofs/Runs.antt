@@ -69,7 +69,7 @@ module _ (files : Option FileMap) (file : Text) (options : SimOptions) (range : 
 
   pub has_ended : (o : Outcome) → HasEndedOn image options before now o → HasEnded files file options before now o
   has_ended Done h = has_run choice.Done (λ k e. cc) h
-  has_ended Refused h = absurd h
+  has_ended (Refused kind place) h = absurd h
   has_ended (Trap trap) h = has_run (choice.Trap trap) (λ k e. cc) h
   has_ended (Spent unit steps) h = has_run (choice.Spent unit steps) (λ k e. cc) h
   has_ended Fault h = has_part h
@@ -100,7 +100,7 @@ module _ (files : Option FileMap) (file : Text) (options : SimOptions) (before n
   -- of whatever outcome, a prefix was written, or nothing
   pub part_of : (o : Outcome) → HasEnded files file options before now o → HasRunPartOrNot files file options before now
   part_of Done h = part_of_run choice.Done h
-  part_of Refused h = inl h.1
+  part_of (Refused kind place) h = inl h.1
   part_of (Trap trap) h = part_of_run (choice.Trap trap) h
   part_of (Spent unit steps) h = part_of_run (choice.Spent unit steps) h
   part_of Fault h = h

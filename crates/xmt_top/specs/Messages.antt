@@ -1,10 +1,13 @@
 -- The lines for the error stream.
 use Rattle.std.specs.Prelude.{ℕ, List, ◌++◌, codes, Option, Some, None}
 use Rattle.std.specs.Fmt.{decimal, signed_decimal}
+use Rattle.xmt_base.specs.declared.values.Place.{Place}
 use Rattle.xmt_base.specs.declared.values.TrapKind.{TrapKind}
 use Rattle.xmt_base.specs.declared.values.TrapKind.TheVariants.{DivideByZero, Index, PsIncrement, CallDepth, Address}
 use Rattle.xmt_base.specs.declared.values.Trap.{Trap}
 use Rattle.xmt_base.specs.Operators.{signed}
+use Rattle.front_end.specs.declared.refusal.SourceKind.{SourceKind}
+use Rattle.front_end.specs.declared.refusal.SourceKind.TheVariants as rule
 
 abbrev pub no_job_line : List ℕ
 no_job_line = codes "xmt: words are no command; commands are cc, sim, run, asm, dis, ref, gen\n"
@@ -15,9 +18,21 @@ fault_line = codes "xmt: host fault\n"
 abbrev pub no_memory_line : List ℕ
 no_memory_line = codes "xmt: out of memory\n"
 
--- the line for a source that isn't thin
-abbrev pub refusal_line : (file : List ℕ) → List ℕ
-refusal_line file = codes "xmt: " ++ file ++ codes ":1:1: NotThin\n"
+abbrev pub rule_name : SourceKind → List ℕ
+rule_name rule.TooLong = codes "TooLong"
+rule_name rule.BadByte = codes "BadByte"
+rule_name rule.BadNumber = codes "BadNumber"
+rule_name rule.OpenComment = codes "OpenComment"
+rule_name rule.OpenText = codes "OpenText"
+rule_name rule.BadEscape = codes "BadEscape"
+rule_name rule.HashLine = codes "HashLine"
+rule_name rule.TooDeep = codes "TooDeep"
+rule_name rule.Syntax = codes "Syntax"
+rule_name rule.NotThin = codes "NotThin"
+
+-- the line for a source that breaks a rule at a place; it isn't unfolded, so that proofs carry it as it stands
+unfoldable pub refusal_line : (file : List ℕ) → SourceKind → Place → List ℕ
+refusal_line file kind place = codes "xmt: " ++ file ++ codes ":" ++ decimal place.line ++ codes ":" ++ decimal place.column ++ codes ": " ++ rule_name kind ++ codes "\n"
 
 abbrev pub kind_name : TrapKind → List ℕ
 kind_name DivideByZero = codes "DivideByZero"

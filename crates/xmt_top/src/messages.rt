@@ -2,10 +2,11 @@
 ghost use Rattle.std.specs.Prelude.{◌≡◌, ◌++◌, IfOk, codes, string_bytes};
 ghost use Rattle.std.specs.Fmt.{decimal, signed_decimal};
 ghost use Rattle.xmt_base.specs.Operators.{signed};
-ghost use Rattle.xmt_top.specs.Messages.{kind_name, refusal_line, spent_line, trap_line};
+ghost use Rattle.xmt_top.specs.Messages.{kind_name, rule_name, refusal_line, spent_line, trap_line};
 
 use std::alloc::{AllocError, Global};
-use xmt_base::{Trap, TrapKind};
+use xmt_base::{Place, Trap, TrapKind};
+use xmt_compile::SourceKind;
 
 /// The line for words that are no job.
 pub(crate) const NO_JOB: &[u8] =
@@ -17,11 +18,47 @@ pub(crate) const HOST_FAULT: &[u8] = b"xmt: host fault\n";
 /// The line for want of memory.
 pub(crate) const NO_MEMORY: &[u8] = b"xmt: out of memory\n";
 
-/// The line for a source that isn't thin.
-pub(crate) fn refusal_line(alloc: Global, file: &str) -> Result<String, AllocError>
-    ensures { IfOk result (λ line. string_bytes line ≡ refusal_line file.now) }
+fn rule_name(kind: SourceKind) -> &'static str
+    ensures { result.now ≡ rule_name kind }
 {
-    format!(in alloc; "xmt: {file}:1:1: NotThin\n")
+    match kind {
+        SourceKind::TooLong => "TooLong",
+        SourceKind::BadByte => "BadByte",
+        SourceKind::BadNumber => "BadNumber",
+        SourceKind::OpenComment => "OpenComment",
+        SourceKind::OpenText => "OpenText",
+        SourceKind::BadEscape => "BadEscape",
+        SourceKind::HashLine => "HashLine",
+        SourceKind::TooDeep => "TooDeep",
+        SourceKind::Syntax => "Syntax",
+        SourceKind::NotThin => "NotThin",
+    }
+}
+
+// The line for a file in which the rule of this name is broken.
+fn broken_rule(
+    alloc: Global,
+    file: &str,
+    line: u32,
+    column: u32,
+    name: &str,
+) -> Result<String, AllocError>
+    ensures { IfOk result (λ text. string_bytes text ≡ codes "xmt: " ++ file.now ++ codes ":" ++ decimal line ++ codes ":" ++ decimal column ++ codes ": " ++ name.now ++ codes "\n") }
+{
+    format!(in alloc; "xmt: {file}:{line}:{column}: {name}\n")
+}
+
+/// The line for a source that breaks a rule at a place.
+pub(crate) fn refusal_line(
+    alloc: Global,
+    file: &str,
+    kind: SourceKind,
+    place: Place,
+) -> Result<String, AllocError>
+    ensures { IfOk result (λ line. string_bytes line ≡ refusal_line file.now kind place) }
+{
+    let Place { line, column } = place;
+    broken_rule(alloc, file, line, column, rule_name(kind))
 }
 
 fn kind_name(kind: TrapKind) -> &'static str

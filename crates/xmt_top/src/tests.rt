@@ -8,8 +8,6 @@ const SQUARES: &str =
 
 const RACE: &str = "int x; main() { spawn(0, 1) { x = $; } printf(\"%d\\n\", x); }";
 
-const NOT_THIN: &str = "xmt: p.xmtc:1:1: NotThin\n";
-
 const NO_JOB: &str = "xmt: words are no command; commands are cc, sim, run, asm, dis, ref, gen\n";
 
 // The words of a line, parted by single spaces; a word `''` is empty.
@@ -41,8 +39,8 @@ fn run(
     Ok((status.code, host))
 }
 
-// Source, code, output and error, whatever the units and the seed are.
-const ROWS: [(&str, u8, &str, &str); 33] = [
+// Thin sources with code, output and error, whatever the units and the seed are.
+static THIN: [(&str, u8, &str, &str); 37] = [
     (SQUARES, 0, "18\n", ""),
     (
         "int A[2]; main() { spawn(0, 2) { A[$] = 7; } }",
@@ -51,9 +49,15 @@ const ROWS: [(&str, u8, &str, &str); 33] = [
         "xmt: trap Index line 1 thread 2\n",
     ),
     ("main() { printf(\"%d\\n\", 3 - 5); }", 0, "-2\n", ""),
-    ("main() { while (1) ; }", 1, "", NOT_THIN),
     ("main(){}", 0, "", ""),
     ("\t\r\n main ( ) { } ", 0, "", ""),
+    ("int A[1048576]; main() { }", 0, "", ""),
+    (
+        "int _a1; int Int; main() { _a1 = 4; Int = _a1 - 6; printf(\"%d\\n\", Int); }",
+        0,
+        "-2\n",
+        "",
+    ),
     // an array of one, a spawn of no thread, of one, of more than there are units
     (
         "int A[1]; main() { A[0] = 7; printf(\"%d\\n\", A[0]); }",
@@ -68,6 +72,12 @@ const ROWS: [(&str, u8, &str, &str); 33] = [
         "",
     ),
     (
+        "int x; main() { x = 1; spawn(2147483647, 0 - 2147483647 - 1) { x = 2; } printf(\"%d\\n\", x); }",
+        0,
+        "1\n",
+        "",
+    ),
+    (
         "int x; main() { spawn(5, 5) { x = $; } printf(\"%d\\n\", x); }",
         0,
         "5\n",
@@ -79,6 +89,27 @@ const ROWS: [(&str, u8, &str, &str); 33] = [
         "394\n",
         "",
     ),
+    // a budget of 100,000,000 steps is enough
+    ("main() { spawn(0, 999) { } }", 0, "", ""),
+    // the least numbers, negative numbers, and bounds that are computed
+    (
+        "int c; main() { spawn(0 - 2147483647 - 1, 0 - 2147483647) { c = 3; } printf(\"%d\\n\", c); }",
+        0,
+        "3\n",
+        "",
+    ),
+    (
+        "int A[7]; main() { spawn(0 - 3, 3) { A[$ + 3] = $ * $; } printf(\"%d\\n\", A[0] + A[1] + A[2] + A[3] + A[4] + A[5] + A[6]); }",
+        0,
+        "28\n",
+        "",
+    ),
+    (
+        "int n; int A[6]; main() { n = 5; spawn(n - 4, n) { A[$] = n; } printf(\"%d\\n\", A[0] + A[1] + A[2] + A[3] + A[4] + A[5]); }",
+        0,
+        "25\n",
+        "",
+    ),
     // numbers wrap, and `*` binds before `-`, which groups to the left
     (
         "main() { printf(\"%d\\n\", 2147483647 + 1); }",
@@ -87,6 +118,12 @@ const ROWS: [(&str, u8, &str, &str); 33] = [
         "",
     ),
     ("main() { printf(\"%d\\n\", 65536 * 65536); }", 0, "0\n", ""),
+    (
+        "int A[2]; main() { spawn(0, 1) { A[$] = 2147483647 + $; } printf(\"%d\\n\", A[0]); printf(\"%d\\n\", A[1]); }",
+        0,
+        "2147483647\n-2147483648\n",
+        "",
+    ),
     (
         "main() { printf(\"%d\\n\", 10 - 2 * 3 - 1); }",
         0,
@@ -99,50 +136,62 @@ const ROWS: [(&str, u8, &str, &str); 33] = [
         "16\n",
         "",
     ),
-    // what was printed before a trap stays; the trap has its own line
     (
-        "int A[2];\nmain() {\nprintf(\"%d\\n\", 1);\nA[\n0 - 1] = 5;\n}",
-        4,
-        "1\n",
-        "xmt: trap Index line 4 serial\n",
+        "main() { printf(\"%d\\n\", ((((1)))) - (2 - (3 - (4 - 5)))); }",
+        0,
+        "3\n",
+        "",
     ),
     (
-        "int A[2]; main() { spawn(0 - 1, 1) { A[\n$] = 1; } }",
-        4,
+        "int a; int b; main() { a = 10; b = a * a - a * 3 * 2 + a; spawn(1, 0) { } printf(\"%d\\n\", b); }",
+        0,
+        "50\n",
         "",
-        "xmt: trap Index line 1 thread -1\n",
     ),
-    // the index is tested before the value is computed
+    // each thread has its own number
     (
-        "int A[1]; main() { A[1] = A[\n2]; }",
-        4,
+        "int P[4]; main() { spawn(0, 3) { P[$] = ($ * $ + 2) * $ - 1; } printf(\"%d\\n\", P[0]); printf(\"%d\\n\", P[3]); }",
+        0,
+        "-1\n32\n",
         "",
-        "xmt: trap Index line 1 serial\n",
     ),
-    // what is not thin
-    ("", 1, "", NOT_THIN),
-    ("main() { x = 1; }", 1, "", NOT_THIN),
-    ("int x; int x; main() { }", 1, "", NOT_THIN),
-    ("int main; main() { }", 1, "", NOT_THIN),
-    ("int A[0]; main() { }", 1, "", NOT_THIN),
-    ("int A[2]; main() { A = 1; }", 1, "", NOT_THIN),
-    ("int x; main() { x[0] = 1; }", 1, "", NOT_THIN),
-    ("int x; main() { x = $; }", 1, "", NOT_THIN),
+    // threads see what the serial code wrote before, and the serial code what they wrote
     (
-        "main() { spawn(0, 1) { printf(\"%d\\n\", 1); } }",
-        1,
+        "int A[8]; int s; main() { A[0] = 3; spawn(1, 7) { A[$] = A[0] * $; } s = A[1] + A[7]; printf(\"%d\\n\", s); }",
+        0,
+        "24\n",
         "",
-        NOT_THIN,
     ),
-    ("main() { printf(\"%d\\n\", 2147483648); }", 1, "", NOT_THIN),
-    ("int A[1048577]; main() { }", 1, "", NOT_THIN),
-    ("int A[1048576]; main() { }", 0, "", ""),
-    ("main() { } // comment", 1, "", NOT_THIN),
     (
-        "main() { spawn(0, 1) { } spawn(0, 1) { } }",
-        1,
+        "int x; main() { printf(\"%d\\n\", x); x = 2; spawn(0, 3) { x = 2; } printf(\"%d\\n\", x * x); }",
+        0,
+        "0\n4\n",
         "",
-        NOT_THIN,
+    ),
+    (
+        "int g; int A[10]; main() { g = 7; spawn(0, 9) { A[$] = A[$] + g; A[$] = A[$] * 2; } printf(\"%d\\n\", A[0] + A[9]); }",
+        0,
+        "28\n",
+        "",
+    ),
+    (
+        "int A[5]; int B[5]; main() { A[0] = 1; A[1] = 2; A[2] = 3; A[3] = 4; A[4] = 5; spawn(0, 4) { B[4 - $] = A[$]; } printf(\"%d\\n\", B[0] * 10000 + B[1] * 1000 + B[2] * 100 + B[3] * 10 + B[4]); }",
+        0,
+        "54321\n",
+        "",
+    ),
+    // an index that is an element: a permutation turned round, and a step of pointer jumping
+    (
+        "int N[4]; int A[4]; main() { N[0] = 2; N[1] = 3; N[2] = 1; N[3] = 0; spawn(0, 3) { A[N[$]] = $; } printf(\"%d\\n\", A[0] * 1000 + A[1] * 100 + A[2] * 10 + A[3]); }",
+        0,
+        "3201\n",
+        "",
+    ),
+    (
+        "int N[4]; int M[4]; main() { N[0] = 1; N[1] = 2; N[2] = 3; N[3] = 3; spawn(0, 3) { M[$] = N[N[$]]; } printf(\"%d\\n\", M[0] + M[1] * 10 + M[2] * 100 + M[3] * 1000); }",
+        0,
+        "3332\n",
+        "",
     ),
     // threads that write one word alike
     (
@@ -151,31 +200,136 @@ const ROWS: [(&str, u8, &str, &str); 33] = [
         "4\n",
         "",
     ),
-    // a budget of 100,000,000 steps is enough
-    ("main() { spawn(0, 999) { } }", 0, "", ""),
+    // what was printed before a trap stays; the trap has its own line
+    (
+        "int A[2];\nmain() {\nprintf(\"%d\\n\", 1);\nA[\n0 - 1] = 5;\n}",
+        4,
+        "1\n",
+        "xmt: trap Index line 4 serial\n",
+    ),
+    (
+        "int A[3]; main() { printf(\"%d\\n\", 9); spawn(3, 3) { A[$] = 1; } printf(\"%d\\n\", 8); }",
+        4,
+        "9\n",
+        "xmt: trap Index line 1 thread 3\n",
+    ),
+    (
+        "int A[3];\nmain() {\nspawn(0, 2) { A[$] = 1; }\nprintf(\"%d\\n\", A[0] + A[1] + A[2]);\nA[3] = A[0];\nprintf(\"%d\\n\", 7);\n}",
+        4,
+        "3\n",
+        "xmt: trap Index line 5 serial\n",
+    ),
+    (
+        "int A[2]; main() { spawn(0 - 1, 1) { A[\n$] = 1; } }",
+        4,
+        "",
+        "xmt: trap Index line 1 thread -1\n",
+    ),
+    (
+        "int A[2]; int x; main() { spawn(0, 0) { x = A[2 - $]; } }",
+        4,
+        "",
+        "xmt: trap Index line 1 thread 0\n",
+    ),
+    // the index is tested before the value is computed
+    (
+        "int A[1]; main() { A[1] = A[\n2]; }",
+        4,
+        "",
+        "xmt: trap Index line 1 serial\n",
+    ),
 ];
 
-#[test]
-fn sources_run_on_any_units(rt: HostRuntime) -> Result<(), Fail> {
-    let words = [
-        "run p.xmtc",
-        "run p.xmtc --units 1",
-        "run --units 3 --seed 9 p.xmtc",
-        "run --seed=18446744073709551615 p.xmtc --units=64",
-    ];
-    for line in words {
-        for (source, code, out, err) in ROWS {
-            let (found, host) = run(&rt, line, source.as_bytes(), None)?;
-            assert_eq!(rt; found, code, "{line}: {source}");
-            assert!(rt;
-                host.out.as_slice() == out.as_bytes(),
-                "output of {line}: {source}"
-            );
-            assert!(rt;
-                host.err.as_slice() == err.as_bytes(),
-                "error of {line}: {source}"
-            );
+// Sources that are refused, and how the line on the error stream ends.
+const OTHERS: [(&str, &str); 21] = [
+    // the tokens
+    ("3x", "1:1: BadNumber"),
+    ("main(){}\n@", "2:1: BadByte"),
+    ("main() { /*", "1:10: OpenComment"),
+    ("main(){ \"a", "1:9: OpenText"),
+    ("\"\\q\"", "1:2: BadEscape"),
+    ("#pragma x", "1:1: HashLine"),
+    // the grammar
+    ("", "1:1: Syntax"),
+    ("main() {\n  x = ;\n}", "2:7: Syntax"),
+    // programs that aren't thin
+    ("main() { while (1) ; }", "1:1: NotThin"),
+    ("main() { x = 1; }", "1:1: NotThin"),
+    ("int x; int x; main() { }", "1:1: NotThin"),
+    ("int main; main() { }", "1:1: NotThin"),
+    ("int A[0]; main() { }", "1:1: NotThin"),
+    ("int A[2]; main() { A = 1; }", "1:1: NotThin"),
+    ("int x; main() { x[0] = 1; }", "1:1: NotThin"),
+    ("int x; main() { x = $; }", "1:1: NotThin"),
+    (
+        "main() { spawn(0, 1) { printf(\"%d\\n\", 1); } }",
+        "1:1: NotThin",
+    ),
+    ("main() { printf(\"%d\\n\", 2147483648); }", "1:1: NotThin"),
+    ("int A[1048577]; main() { }", "1:1: NotThin"),
+    ("main() { } // comment", "1:1: NotThin"),
+    ("main() { spawn(0, 1) { } spawn(0, 1) { } }", "1:1: NotThin"),
+];
+
+// The line for a refused source that ends so.
+fn refusal(alloc: Global, end: &str) -> Result<String, Fail> {
+    Ok(format!(in alloc; "xmt: p.xmtc:{end}\n")?)
+}
+
+fn thin_sources() -> &'static [(&'static str, u8, &'static str, &'static str)] {
+    &THIN
+}
+
+// The first thin source whose run under these words gives something else than its row.
+fn differing(rt: &HostRuntime, words: &str) -> Result<Option<&'static str>, Fail> {
+    for row in thin_sources() {
+        let (found, host) = run(rt, words, row.0.as_bytes(), None)?;
+        if found != row.1
+            || host.out.as_slice() != row.2.as_bytes()
+            || host.err.as_slice() != row.3.as_bytes()
+        {
+            return Ok(Some(row.0));
         }
+    }
+    Ok(None)
+}
+
+#[test]
+fn sources_run_by_default(rt: HostRuntime) -> Result<(), Fail> {
+    assert_eq!(rt; differing(&rt, "run p.xmtc")?, None);
+    Ok(())
+}
+
+#[test]
+fn sources_run_on_one_unit(rt: HostRuntime) -> Result<(), Fail> {
+    assert_eq!(rt; differing(&rt, "run p.xmtc --units 1")?, None);
+    Ok(())
+}
+
+#[test]
+fn sources_run_on_three_units(rt: HostRuntime) -> Result<(), Fail> {
+    assert_eq!(rt; differing(&rt, "run --units 3 --seed 9 p.xmtc")?, None);
+    Ok(())
+}
+
+#[test]
+fn sources_run_on_seventeen_units(rt: HostRuntime) -> Result<(), Fail> {
+    let words = "run --seed=18446744073709551615 p.xmtc --units=17";
+    assert_eq!(rt; differing(&rt, words)?, None);
+    Ok(())
+}
+
+#[test]
+fn other_sources_are_refused(rt: HostRuntime) -> Result<(), Fail> {
+    for (source, end) in OTHERS {
+        let (found, host) = run(&rt, "run p.xmtc", source.as_bytes(), None)?;
+        let wanted = refusal(rt.alloc(), end)?;
+        assert_eq!(rt; found, 1, "{source}");
+        assert!(rt; host.out.is_empty(), "output of {source}");
+        assert!(rt;
+            host.err.as_slice() == wanted.as_bytes(),
+            "error of {source}"
+        );
     }
     Ok(())
 }
@@ -342,24 +496,61 @@ fn spaced(alloc: Global, length: usize) -> Result<Vec<u8>, Fail> {
     Ok(source)
 }
 
+// Pairs of brackets, and how the line for the refusal ends, if there is one.
+const DEPTHS: [(usize, &str); 5] = [
+    (197, ""),
+    (198, "1:219: Syntax"),
+    (199, "1:219: Syntax"),
+    (200, "1:220: TooDeep"),
+    (100_000, "1:220: TooDeep"),
+];
+
+#[test]
+fn brackets_are_bounded(rt: HostRuntime) -> Result<(), Fail> {
+    let alloc = rt.alloc();
+    for (pairs, end) in DEPTHS {
+        let source = bracketed(alloc, pairs)?;
+        let (_code, host) = run(&rt, "run p.xmtc", source.as_slice(), None)?;
+        let wanted = if end.is_empty() {
+            String::new(alloc)
+        } else {
+            refusal(alloc, end)?
+        };
+        assert!(rt;
+            host.err.as_slice() == wanted.as_bytes(),
+            "{pairs} pairs of brackets"
+        );
+    }
+    Ok(())
+}
+
 #[test]
 fn limits_hold(rt: HostRuntime) -> Result<(), Fail> {
     let alloc = rt.alloc();
-    for (pairs, code) in [(197, 0), (198, 1), (199, 1), (200, 1), (100_000, 1)] {
-        let source = bracketed(alloc, pairs)?;
-        let (found, _host) = run(&rt, "run p.xmtc", source.as_slice(), None)?;
-        assert_eq!(rt; found, code, "{pairs} pairs of brackets");
-    }
-    for (length, code) in [(1_048_576, 0), (1_048_577, 1)] {
-        let source = spaced(alloc, length)?;
-        let (found, _host) = run(&rt, "run p.xmtc", source.as_slice(), None)?;
-        assert_eq!(rt; found, code, "{length} bytes");
-    }
-    let odd: [&[u8]; 3] = [b"main(){}\0", b"main(){\xff}", b"\xc3\x28"];
-    for source in odd {
+    let source = spaced(alloc, 1_048_576)?;
+    let (found, _host) = run(&rt, "run p.xmtc", source.as_slice(), None)?;
+    assert_eq!(rt; found, 0);
+    let source = spaced(alloc, 1_048_577)?;
+    let (found, host) = run(&rt, "run p.xmtc", source.as_slice(), None)?;
+    assert_eq!(rt; found, 1);
+    assert!(rt; host.err.as_slice() == b"xmt: p.xmtc:1:1: TooLong\n".as_slice());
+    Ok(())
+}
+
+// Bytes that no source has, and where they stand.
+const ODD: [(&[u8], &str); 3] = [
+    (b"main(){}\0", "1:9: BadByte"),
+    (b"main(){\xff}", "1:8: BadByte"),
+    (b"\xc3\x28", "1:1: BadByte"),
+];
+
+#[test]
+fn odd_bytes_are_refused(rt: HostRuntime) -> Result<(), Fail> {
+    for (source, end) in ODD {
         let (found, host) = run(&rt, "run p.xmtc", source, None)?;
+        let wanted = refusal(rt.alloc(), end)?;
         assert_eq!(rt; found, 1);
-        assert!(rt; host.err.as_slice() == NOT_THIN.as_bytes());
+        assert!(rt; host.err.as_slice() == wanted.as_bytes());
     }
     Ok(())
 }

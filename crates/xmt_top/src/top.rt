@@ -1,14 +1,16 @@
 //! The top call.
 ghost use Rattle.std.specs.Prelude.{◌≡◌, ◌⊎◌, ℕ, ◌≤◌, ◌∷◌, [], None, Contains, map, string_bytes};
+ghost use Rattle.xmt_base.specs.declared.values.Place.{Place};
 ghost use Rattle.xmt_base.specs.declared.values.Trap.{Trap};
 ghost use Rattle.xmt_base.specs.Host.{Rose, HasFile};
+ghost use Rattle.front_end.specs.declared.refusal.SourceKind.{SourceKind};
 ghost use Rattle.xmt_isa.specs.declared.run.Choice.TheVariants as choice;
 ghost use Rattle.machine_core.specs.Sizes.{IsSmall};
 ghost use Rattle.xmt_cli.specs.JobOf.{task_of, AreInRange};
 ghost use Rattle.xmt_top.specs.declared.top.Outcome.TheVariants as ended;
 ghost use Rattle.xmt_top.specs.Runs.{ForJob, HasRun, HasRunPartOrNot, HasTrapped, HasSpent};
-ghost use Rattle.xmt_top.specs.Outcomes.{HasEnded, HasEndedOn};
-ghost use Rattle.xmt_top.specs.Sources.{IsRefused, MustBeRefused};
+ghost use Rattle.xmt_top.specs.Outcomes.{HasEnded, HasEndedOn, IsGivenUp, given_up};
+ghost use Rattle.xmt_top.specs.Sources.{HasRefused, MustBeRefused};
 ghost use Rattle.xmt_top.specs.Completeness.{IsAccepted, MustEnd};
 ghost use Rattle.xmt_top.specs.Complaints.{Complains};
 ghost use Rattle.xmt_top.specs.Messages.{no_job_line, fault_line, refusal_line, trap_line, spent_line};
@@ -18,10 +20,9 @@ use crate::print::complain_all;
 use machine_core::run_picked;
 use sqlite_items::Items;
 use std::alloc::Global;
-use thin_source::SourceRefusal;
-use xmt_base::{Host, HostFault, Memory, TakeFault, Trap, take_file};
+use xmt_base::{Host, HostFault, Memory, Place, TakeFault, Trap, take_file};
 use xmt_cli::{Job, WordsRefusal, read_words};
-use xmt_compile::compile;
+use xmt_compile::{SourceKind, SourceRefusal, compile};
 use xmt_isa::{Image, SimEnd, SimOptions};
 
 /// How a job ended, as the exit status of the program.
@@ -35,11 +36,14 @@ pub struct Status {
 // The longest source.
 const LIMIT: u64 = 1 << 20;
 
+// Where a source begins.
+const FIRST: Place = Place { line: 1, column: 1 };
+
 // How a job ended.
 #[derive(Clone, Copy)]
 enum Outcome {
     Done,
-    Refused,
+    Refused(SourceKind, Place),
     Trap(Trap),
     Spent { unit: u32, steps: u64 },
     Fault,
@@ -54,8 +58,9 @@ pub fn xmt<H: Host>(alloc: Global, words: &[String], host: &mut H) -> Status
     ensures codes { Contains (0 ∷ 1 ∷ 2 ∷ 4 ∷ 5 ∷ 6 ∷ 7 ∷ []) result.code }
     ensures no_job { result.code ≡ 2 → task_of (map string_bytes words.now) ≡ None }
     ensures no_job_only { task_of (map string_bytes words.now) ≡ None → (result.code ≡ 2) ⊎ (result.code ≡ 7) }
-    // The source is refused exactly where it has no program, as far as memory and the host allow.
-    ensures refused { result.code ≡ 1 → ForJob (map string_bytes words.now) (λ file options. IsRefused (H.files host.old) file) }
+    // The source is refused exactly where it has no program, as far as memory and the host allow, and the line on the
+    // error stream tells the rule that it breaks first, and where.
+    ensures refused { result.code ≡ 1 → ForJob (map string_bytes words.now) (λ file options. HasRefused (H.files host.old) file (H.faults host.old) (H.faults host.new) (H.err host.old) (H.err host.new)) }
     ensures refused_only { ForJob (map string_bytes words.now) (λ file options. MustBeRefused (H.files host.old) file → Contains (1 ∷ 6 ∷ 7 ∷ []) result.code) }
     ensures fault { result.code ≡ 6 → Rose (H.faults host.old) (H.faults host.new) }
     // Where the host meets no fault, a source ends with 0, 4 or 5, and with 0 where it neither traps nor takes more steps
@@ -70,7 +75,6 @@ pub fn xmt<H: Host>(alloc: Global, words: &[String], host: &mut H) -> Status
     ensures spent { result.code ≡ 5 → ForJob (map string_bytes words.now) (λ file options. HasSpent (H.files host.old) file options (H.out host.old) (H.out host.new) (H.faults host.old) (H.faults host.new) (H.err host.old) (H.err host.new)) }
     ensures part { Contains (6 ∷ 7 ∷ []) result.code → ForJob (map string_bytes words.now) (λ file options. HasRunPartOrNot (H.files host.old) file options (H.out host.old) (H.out host.new)) }
     ensures done_line { result.code ≡ 0 → H.err host.new ≡ H.err host.old }
-    ensures refused_line { result.code ≡ 1 → ForJob (map string_bytes words.now) (λ file options. Complains (refusal_line file) (H.faults host.old) (H.faults host.new) (H.err host.old) (H.err host.new)) }
     ensures no_job_line { result.code ≡ 2 → Complains no_job_line (H.faults host.old) (H.faults host.new) (H.err host.old) (H.err host.new) }
     ensures fault_line { result.code ≡ 6 → Complains fault_line (H.faults host.old) (H.faults host.new) (H.err host.old) (H.err host.new) }
 
@@ -107,7 +111,7 @@ fn complain<H: Host>(code: u8, line: &[u8], host: &mut H) -> Status
 fn run_file<H: Host>(alloc: Global, file: &str, options: &SimOptions, host: &mut H) -> Status
     requires range { AreInRange options.now }
     ensures codes { Contains (0 ∷ 1 ∷ 4 ∷ 5 ∷ 6 ∷ 7 ∷ []) result.code }
-    ensures refused { result.code ≡ 1 → IsRefused (H.files host.old) file.now }
+    ensures refused { result.code ≡ 1 → HasRefused (H.files host.old) file.now (H.faults host.old) (H.faults host.new) (H.err host.old) (H.err host.new) }
     ensures refused_only { MustBeRefused (H.files host.old) file.now → Contains (1 ∷ 6 ∷ 7 ∷ []) result.code }
     ensures fault { result.code ≡ 6 → Rose (H.faults host.old) (H.faults host.new) }
     ensures accepted { ¬ Rose (H.faults host.old) (H.faults host.new) → IsAccepted (H.files host.old) file.now → Contains (0 ∷ 4 ∷ 5 ∷ 7 ∷ []) result.code }
@@ -118,7 +122,6 @@ fn run_file<H: Host>(alloc: Global, file: &str, options: &SimOptions, host: &mut
     ensures spent { result.code ≡ 5 → HasSpent (H.files host.old) file.now options.now (H.out host.old) (H.out host.new) (H.faults host.old) (H.faults host.new) (H.err host.old) (H.err host.new) }
     ensures part { Contains (6 ∷ 7 ∷ []) result.code → HasRunPartOrNot (H.files host.old) file.now options.now (H.out host.old) (H.out host.new) }
     ensures done_line { result.code ≡ 0 → H.err host.new ≡ H.err host.old }
-    ensures refused_line { result.code ≡ 1 → Complains (refusal_line file.now) (H.faults host.old) (H.faults host.new) (H.err host.old) (H.err host.new) }
     ensures fault_line { result.code ≡ 6 → Complains fault_line (H.faults host.old) (H.faults host.new) (H.err host.old) (H.err host.new) }
     ensures later { H.faults host.old ≤ H.faults host.new }
     ensures steady { H.steady host.old → H.steady host.new }
@@ -133,7 +136,7 @@ fn run_file<H: Host>(alloc: Global, file: &str, options: &SimOptions, host: &mut
 fn outcome_of<H: Host>(alloc: Global, file: &str, options: &SimOptions, host: &mut H) -> Outcome
     requires range { AreInRange options.now }
     ensures ended { HasEnded (H.files host.old) file.now options.now (H.out host.old) (H.out host.new) result }
-    ensures refused_only { MustBeRefused (H.files host.old) file.now → (result ≡ ended.Refused) ⊎ (result ≡ ended.NoMemory) ⊎ (result ≡ ended.Fault) }
+    ensures refused_only { MustBeRefused (H.files host.old) file.now → IsGivenUp result }
     ensures fault { result ≡ ended.Fault → Rose (H.faults host.old) (H.faults host.new) }
     ensures no_fault { H.steady host.old → HasFile (H.files host.old) file.now → H.faults host.new ≡ H.faults host.old }
     ensures later { H.faults host.old ≤ H.faults host.new }
@@ -143,13 +146,22 @@ fn outcome_of<H: Host>(alloc: Global, file: &str, options: &SimOptions, host: &m
 {
     match take_file(alloc, host, file, LIMIT) {
         Err(TakeFault::Fault) => Outcome::Fault,
-        Err(TakeFault::TooLong) => Outcome::Refused,
+        Err(TakeFault::TooLong) => Outcome::Refused(SourceKind::TooLong, FIRST),
         Err(TakeFault::NoMemory) => Outcome::NoMemory,
         Ok(source) => match compile(alloc, source.as_slice()) {
-            Err(SourceRefusal::Refused(_, _)) => Outcome::Refused,
-            Err(SourceRefusal::NoMemory) => Outcome::NoMemory,
+            Err(refusal) => given_up(refusal),
             Ok(image) => outcome_of_image(alloc, &image, options, host),
         },
+    }
+}
+
+// How a job ends whose source is refused.
+fn given_up(refusal: SourceRefusal) -> Outcome
+    ensures { result ≡ given_up refusal }
+{
+    match refusal {
+        SourceRefusal::Refused(kind, place) => Outcome::Refused(kind, place),
+        SourceRefusal::NoMemory => Outcome::NoMemory,
     }
 }
 
@@ -188,13 +200,12 @@ fn outcome_of_image<H: Host>(
 fn report<H: Host>(alloc: Global, file: &str, outcome: Outcome, host: &mut H) -> Status
     ensures codes { Contains (0 ∷ 1 ∷ 4 ∷ 5 ∷ 6 ∷ 7 ∷ []) result.code }
     ensures done { result.code ≡ 0 → outcome ≡ ended.Done }
-    ensures refused { result.code ≡ 1 → outcome ≡ ended.Refused }
+    ensures refused { result.code ≡ 1 → (kind : SourceKind) × (place : Place) × (outcome ≡ ended.Refused kind place) × Complains (refusal_line file.now kind place) (H.faults host.old) (H.faults host.new) (H.err host.old) (H.err host.new) }
     ensures trapped { result.code ≡ 4 → (trap : Trap) × (outcome ≡ ended.Trap trap) × Complains (trap_line trap) (H.faults host.old) (H.faults host.new) (H.err host.old) (H.err host.new) }
     ensures spent { result.code ≡ 5 → (unit steps : ℕ) × (outcome ≡ ended.Spent unit steps) × Complains (spent_line unit steps) (H.faults host.old) (H.faults host.new) (H.err host.old) (H.err host.new) }
     ensures fault { result.code ≡ 6 → outcome ≡ ended.Fault }
-    ensures refused_only { (outcome ≡ ended.Refused) ⊎ (outcome ≡ ended.NoMemory) ⊎ (outcome ≡ ended.Fault) → Contains (1 ∷ 6 ∷ 7 ∷ []) result.code }
+    ensures refused_only { IsGivenUp outcome → Contains (1 ∷ 6 ∷ 7 ∷ []) result.code }
     ensures done_line { result.code ≡ 0 → H.err host.new ≡ H.err host.old }
-    ensures refused_line { result.code ≡ 1 → Complains (refusal_line file.now) (H.faults host.old) (H.faults host.new) (H.err host.old) (H.err host.new) }
     ensures fault_line { result.code ≡ 6 → Complains fault_line (H.faults host.old) (H.faults host.new) (H.err host.old) (H.err host.new) }
     ensures no_fault { H.steady host.old → H.faults host.new ≡ H.faults host.old }
     ensures later { H.faults host.old ≤ H.faults host.new }
@@ -204,7 +215,7 @@ fn report<H: Host>(alloc: Global, file: &str, outcome: Outcome, host: &mut H) ->
 {
     match outcome {
         Outcome::Done => Status { code: 0 },
-        Outcome::Refused => match refusal_line(alloc, file) {
+        Outcome::Refused(kind, place) => match refusal_line(alloc, file, kind, place) {
             Ok(line) => complain(1, line.as_bytes(), host),
             Err(_) => Status { code: 7 },
         },

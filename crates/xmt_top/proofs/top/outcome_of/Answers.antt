@@ -1,12 +1,9 @@
 use Rattle.std.proofs.Common.{◌^◌, List, ℕ, subst, rules, Option, Err}
 use Rattle.xmt_base.specs.Host.{IsLonger}
-use Rattle.thin_source.specs.declared.source.SourceRefusal.{SourceRefusal}
-use Rattle.thin_source.specs.declared.source.SourceRefusal.TheVariants.{Refused}
-use Rattle.thin_source.specs.Thin.{HasNoProgram}
 use Rattle.xmt_compile.specs.Compiles.{IsCompiled, Compiles}
 use Rattle.xmt_top.specs.Outcomes.{HasEnded}
 use Rattle.xmt_top.proofs.Runs.{has_ended}
-use Rattle.xmt_top.proofs.Sources.{refused_longer, refused_whole, whole_refused}
+use Rattle.xmt_top.proofs.Sources.{refused_longer, refused_ended, whole_refused}
 use Rattle.xmt_top.proofs.top.outcome_of.Goals as goal
 
 pub returns-in-Err-TooLong-clause-ended : goal.returns-in-Err-TooLong-clause-ended
@@ -14,13 +11,10 @@ returns-in-Err-TooLong-clause-ended g c =
     let longer : IsLonger (g.H.Host.files c.args.host.now) c.args.file.now (2 ^ 20) = search (rules, c.in-Err-TooLong.ensures.longer) in
     (refused_longer (g.H.Host.files c.args.host.now) c.args.file.now longer, c.in-Err-TooLong.ensures.out)
 
-pub returns-in-Err-Refused-clause-ended : goal.returns-in-Err-Refused-clause-ended
-returns-in-Err-Refused-clause-ended g c =
-    let refused : Compiles c.as_slice.result.now (Err (Refused c.in-Err-Refused.field-0-0 c.in-Err-Refused.field-0-1)) =
-    subst (λ (e : SourceRefusal). Compiles c.as_slice.result.now (Err e)) c.in-Err-Refused.field-0-is c.in-Err-Refused.ensures in (
-      refused_whole (g.H.Host.files c.args.host.now) c.args.file.now c.in-Ok.source.items c.in-Ok.ensures.whole (subst HasNoProgram c.as_slice.ensures.value refused.1),
-      c.take_file.ensures.out,
-    )
+pub returns-in-Err-clause-ended : goal.returns-in-Err-clause-ended
+returns-in-Err-clause-ended g c =
+    refused_ended (g.H.Host.files c.args.host.now) c.args.file.now c.args.options.now (g.H.Host.out c.args.host.now) (g.H.Host.out c.take_file.new.host) c.in-Ok.source.items c.in-Err.refusal c.given_up.result c.in-Ok.ensures.whole
+    (subst (λ (bytes : List ℕ). Compiles bytes (Err c.in-Err.refusal)) c.as_slice.ensures.value c.in-Err.ensures) c.take_file.ensures.out c.given_up.ensures
 
 pub returns-clause-ended : goal.returns-clause-ended
 returns-clause-ended g c =

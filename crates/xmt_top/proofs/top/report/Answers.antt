@@ -1,5 +1,6 @@
-use Rattle.std.proofs.Common.{◌∙◌, ℕ, List, inl, inr, subst, arith}
+use Rattle.std.proofs.Common.{◌∙◌, ℕ, List, [], ◌∷◌, inl, inr, subst, refl, arith}
 use Rattle.xmt_top.specs.Complaints.{Complains}
+use Rattle.xmt_top.proofs.Codes.{code_or}
 use Rattle.xmt_top.proofs.top.report.Goals as goal
 
 pub returns-in-Ok-spent_line-clause-spent : goal.returns-in-Ok-spent_line-clause-spent
@@ -17,3 +18,21 @@ returns-in-Ok-spent_line-clause-spent g c =
             (c.as_bytes-in-Ok-spent_line.ensures.value ∙ c.in-Ok-spent_line.ensures) told,
       )
     ]
+
+pub returns-in-Ok-clause-refused : goal.returns-in-Ok-clause-refused
+returns-in-Ok-clause-refused g c =
+    λ one.
+    elim c.complain.ensures.line [
+      | inl seven ↦ absurd (omega (arith, one, seven))
+      | inr told ↦ (
+        c.in-Refused.kind,
+        c.in-Refused.place,
+        c.in-Refused.is,
+        subst
+            (λ (line : List ℕ). Complains line (g.H.Host.faults c.args.host.now) (g.H.Host.faults c.complain.new.host) (g.H.Host.err c.args.host.now) (g.H.Host.err c.complain.new.host))
+            (c.as_bytes.ensures.value ∙ c.in-Ok.ensures) told,
+      )
+    ]
+
+pub returns-in-Ok-spent_line-clause-codes : goal.returns-in-Ok-spent_line-clause-codes
+returns-in-Ok-spent_line-clause-codes g c = code_or (0 ∷ 1 ∷ 4 ∷ 5 ∷ 6 ∷ 7 ∷ []) 5 _ (3, omega arith, refl) (5, omega arith, refl) c.complain-in-Ok-spent_line.ensures.code
