@@ -24,7 +24,7 @@ const TABLE: [(&str, &str); 27] = [
     ("main(){} int", "Syntax 1:13"),
     ("main() { x = ; }", "Syntax 1:14"),
     ("unsigned x; main() { }", "Syntax 1:1"),
-    ("int x;\n\nx = 1;", "Syntax 3:3"),
+    ("int x;\n\nx = 1;", "Syntax 3:1"),
     ("main() { \"a\"; }", "Syntax 1:10"),
     ("main() { else ; }", "Syntax 1:10"),
     // other programs
@@ -89,7 +89,7 @@ fn limits_hold(rt: HostRuntime) -> Result<(), Fail> {
         ("main(){}", b' ', 1_048_568, "", "a program"),
         ("main(){}", b' ', 1_048_569, "", "TooLong 1:1"),
         ("@", b'(', 1_048_576, "", "TooLong 1:1"),
-        ("", b'a', 1_048_576, "", "Syntax 1:1048577"),
+        ("", b'a', 1_048_576, "", "Syntax 1:1"),
     ];
     for (before, byte, times, behind, wanted) in rows {
         let source = repeated(alloc, before, byte, times, behind)?;

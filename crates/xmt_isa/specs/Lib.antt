@@ -1,3 +1,4 @@
+pub mod Fits
 pub mod Flow
 pub mod Image
 pub mod Legal

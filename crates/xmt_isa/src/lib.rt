@@ -17,7 +17,40 @@ pub use unit::{Counts, Next, Request, SpawnAsk, Start, Unit, UnitState};
 #[cfg(test)]
 mod tests {
     use super::*;
+    use std::test::Fail;
     use xmt_base::BinOp;
+
+    // A control unit that is new, and the master at a spawn of three threads that passes on a register.
+    #[test]
+    fn units_are_made(rt: HostRuntime) -> Result<(), Fail> {
+        let mut unit = Unit::new(rt.alloc(), 3)?;
+        assert_eq!(rt; (unit.number(), unit.steps(), unit.thread()), (3, 0, None));
+        assert!(rt; unit.args() == [0; 16].as_slice());
+        assert_eq!(rt; unit.counts().threads, 0);
+        unit.state = UnitState::Stopped;
+        unit.ready();
+        assert_eq!(rt; unit.state, UnitState::Draws);
+        let mut master = Unit::new(rt.alloc(), 0)?;
+        master.waits = true;
+        master.regs[8] = 7;
+        master.regs[9] = 7;
+        let ask = SpawnAsk {
+            at: 1,
+            low: 2,
+            high: 4,
+            mask: 256,
+        };
+        let start = master.start(rt.alloc(), &ask)?;
+        assert_eq!(rt;
+            (start.at, start.low, start.count, start.depth),
+            (1, 2, 3, 0)
+        );
+        assert_eq!(rt;
+            (start.regs[8], start.regs[9], start.frame.len()),
+            (7, 0, 512)
+        );
+        Ok(())
+    }
 
     #[test]
     fn instructions_have_the_numbers_of_the_table(rt: HostRuntime) {

@@ -1,6 +1,25 @@
 //! The master and the control units: what a unit keeps, and what it asks for.
+ghost use Rattle.std.specs.Prelude.{◌≡◌, ◌+◌, ◌*◌, ◌^◌, ◌≤◌, length, take, drop, true, IfOk};
+ghost use Rattle.xmt_base.specs.Operators.{count_between};
+ghost use Rattle.xmt_isa.specs.declared.image.Image.{Image};
+ghost use Rattle.xmt_isa.specs.declared.unit.UnitState.TheVariants.{Stopped};
+ghost use Rattle.xmt_isa.specs.Opening.{new_unit, zeros_of};
+ghost use Rattle.xmt_isa.specs.Machine.{broadcast, masked, ready};
+ghost use Rattle.xmt_isa.specs.Regions.{IsSpawn};
+ghost use Rattle.xmt_isa.specs.Threads.{HasRoom};
+ghost use Rattle.xmt_isa.specs.Fits.{UnitFits, StartFits};
+
 use sqlite_items::Items;
+use std::alloc::{AllocError, Global};
 use xmt_base::TrapKind;
+
+// How many return positions a unit has.
+const DEPTHS: usize = 256;
+
+// How many slots a frame has, and how many all frames of a unit have.
+const FRAME: usize = 512;
+
+const SLOTS: usize = 257 * FRAME;
 
 /// What a unit is at.
 #[derive(Clone, Copy, Debug, PartialEq, Eq)]
@@ -45,6 +64,149 @@ pub struct Unit {
     /// The argument list.
     pub list: [u32; 16],
     pub counts: Counts,
+}
+
+impl Unit {
+    /// A new unit, with all its frames. Number 0 is the master, which is due to begin; any other is
+    /// a control unit, which is due to draw.
+    pub fn new(alloc: Global, number: u32) -> Result<Unit, AllocError>
+        ensures value { IfOk result (λ unit. unit ≡ new_unit number) }
+        ensures room { IfOk result HasRoom }
+        ensures fits { IfOk result (λ unit. (image : Image) (start : Start) → UnitFits image start unit) }
+    {
+        Ok(Unit {
+            number,
+            state: UnitState::Draws,
+            waits: false,
+            at: 0,
+            thread: None,
+            depth: 0,
+            back: zeros(alloc, DEPTHS)?,
+            regs: [0; 32],
+            frames: zeros(alloc, SLOTS)?,
+            list: [0; 16],
+            counts: Counts {
+                steps: 0,
+                loads: 0,
+                stores: 0,
+                adds: 0,
+                threads: 0,
+            },
+        })
+    }
+
+    /// Its number: 0 for the master, 1 and up for control units.
+    pub fn number(&self) -> u32
+        ensures { result ≡ self.now.number }
+    {
+        self.number
+    }
+
+    /// How many steps it has done: instructions and draws.
+    pub fn steps(&self) -> u64
+        ensures { result ≡ self.now.counts.steps }
+    {
+        self.counts.steps
+    }
+
+    /// Its argument list.
+    pub fn args(&self) -> &[u32]
+        ensures { result.now ≡ self.now.list }
+    {
+        &self.list
+    }
+
+    /// The number of the virtual thread that it runs, if it runs one.
+    pub fn thread(&self) -> Option<u32>
+        ensures { result ≡ self.now.thread }
+    {
+        self.thread
+    }
+
+    /// What it has done since it was made.
+    pub fn counts(&self) -> Counts
+        ensures { result ≡ self.now.counts }
+    {
+        self.counts
+    }
+
+    /// Makes a control unit that has stopped due to draw.
+    pub fn ready(&mut self)
+        requires { self.old.state ≡ Stopped }
+        ensures { self.new ≡ ready self.old }
+    {
+        self.state = UnitState::Draws;
+    }
+
+    /// What the master, which waits at this spawn, broadcasts.
+    pub fn start(&self, alloc: Global, ask: &SpawnAsk) -> Result<Start, AllocError>
+        requires master { self.now.number ≡ 0 }
+        requires waits { self.now.waits ≡ true }
+        requires spawn { ask.now.at ≡ self.now.at + 1 }
+        requires depth { self.now.depth ≤ 256 }
+        requires frames { length self.now.frames ≡ 131584 }
+        ensures value { IfOk result (λ start. start ≡ broadcast self.now ask.now) }
+        ensures fits { IfOk result (λ start. (image : Image) (before : Start) → UnitFits image before self.now → IsSpawn image self.now.at → StartFits image start) }
+    {
+        let frame = frame_at(self.frames.as_slice(), self.depth);
+        Ok(Start {
+            at: ask.at,
+            low: ask.low,
+            count: count_between(ask.low, ask.high),
+            depth: self.depth,
+            regs: masked(ask.mask, &self.regs),
+            frame: Items::from_slice(alloc, frame)?,
+        })
+    }
+}
+
+fn zeros(alloc: Global, n: usize) -> Result<Items<u32>, AllocError>
+    ensures { IfOk result (λ zeros. zeros ≡ zeros_of n) }
+{
+    Ok(Items::from_vec(vec![in alloc; 0; n]?))
+}
+
+// The frame of a depth.
+fn frame_at(frames: &[u32], depth: u32) -> &[u32]
+    requires deep { depth ≤ 256 }
+    requires whole { length frames.now ≡ 131584 }
+    ensures { result.now ≡ take 512 (drop (512 * depth) frames.now) }
+{
+    let from = FRAME * depth as usize;
+    &frames[from..from + FRAME]
+}
+
+// How many numbers there are from low to high, both included and both read as signed.
+fn count_between(low: u32, high: u32) -> u64
+    ensures { result ≡ count_between low high }
+{
+    if high.cast_signed() < low.cast_signed() {
+        0
+    } else {
+        high.wrapping_sub(low) as u64 + 1
+    }
+}
+
+// Clears the registers whose bit isn't set.
+fn mask_out(mask: u32, regs: &mut [u32])
+    ensures { regs.new ≡ masked mask regs.old }
+{
+    if let Some((first, others)) = regs.split_first_mut() {
+        if mask % 2 != 1 {
+            *first = 0;
+        }
+        mask_out(mask / 2, others);
+    }
+}
+
+// The registers, with 0 in place of those whose bit isn't set.
+fn masked(mask: u32, regs: &[u32; 32]) -> [u32; 32]
+    ensures { result ≡ masked mask regs.now }
+{
+    let mut kept = [0; 32];
+    kept.copy_from_slice(regs);
+    mask_out(mask, &mut kept);
+    kept
 }
 
 /// What a spawn broadcasts.

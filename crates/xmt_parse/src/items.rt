@@ -534,7 +534,7 @@ fn read_main<'a>(
         let name = name_of(alloc, source, t)?;
         read_headed(alloc, source, depth, t.place, RawResult::Main(name), ts)
     } else {
-        Err(ReadError::Syntax(ts.len()))
+        Err(ReadError::Syntax(ts.len() + 1))
     }
 }
 
