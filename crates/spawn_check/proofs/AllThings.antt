@@ -15,7 +15,7 @@ use Rattle.source_meaning.specs.declared.tree.Function.{Function}
 use Rattle.spawn_check.specs.declared.refusal.SpawnRefusal.{SpawnRefusal}
 use Rattle.spawn_check.specs.declared.things.Thing.TheVariants as thing
 use Rattle.spawn_check.specs.declared.things.Around.{Around}
-use Rattle.spawn_check.specs.declared.things.Occurrence.{Occurrence}
+use Rattle.spawn_check.specs.Things.{Occurrence}
 use Rattle.spawn_check.specs.declared.things.Marks.{Marks}
 use Rattle.spawn_check.specs.Things.{serial, in_block, in_loop, occurrence, of_expression, of_spot, of_row, of_values, of_option, of_statement, of_body, of_other, of_statements, of_functions, single}
 use Rattle.spawn_check.specs.First.{Change, unchanged, one_behind_other, by_thing, first_with}

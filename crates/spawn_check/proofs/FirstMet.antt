@@ -12,7 +12,7 @@ use Rattle.spawn_check.specs.declared.refusal.SpawnRefusal.{SpawnRefusal}
 use Rattle.spawn_check.specs.declared.things.Thing.{Thing}
 use Rattle.spawn_check.specs.declared.things.Thing.TheVariants as thing
 use Rattle.spawn_check.specs.declared.things.Sought.TheVariants as sought
-use Rattle.spawn_check.specs.declared.things.Occurrence.{Occurrence}
+use Rattle.spawn_check.specs.Things.{Occurrence}
 use Rattle.spawn_check.specs.declared.things.Marks.{Marks}
 use Rattle.spawn_check.specs.Things.{occurrence, occurrences}
 use Rattle.spawn_check.specs.Marking.{AreExact}

@@ -15,7 +15,7 @@ use Rattle.source_meaning.specs.declared.tree.ExprKind.TheVariants as expr
 use Rattle.source_meaning.specs.declared.tree.StmtKind.TheVariants as stmt
 use Rattle.source_meaning.specs.Opened.{opened}
 use Rattle.spawn_check.specs.declared.things.Around.{Around}
-use Rattle.spawn_check.specs.declared.things.Occurrence.{Occurrence}
+use Rattle.spawn_check.specs.Things.{Occurrence}
 use Rattle.xmt_base.specs.declared.Place.{Place}
 use Rattle.spawn_check.specs.declared.refusal.SpawnRefusal.{SpawnRefusal}
 use Rattle.spawn_check.specs.declared.things.Thing.TheVariants as thing

@@ -13,7 +13,7 @@ use Rattle.spawn_check.specs.declared.refusal.SpawnRefusal.{SpawnRefusal}
 use Rattle.spawn_check.specs.declared.things.Thing.{Thing}
 use Rattle.spawn_check.specs.declared.things.Thing.TheVariants as thing
 use Rattle.spawn_check.specs.declared.things.Around.{Around}
-use Rattle.spawn_check.specs.declared.things.Occurrence.{Occurrence}
+use Rattle.spawn_check.specs.Things.{Occurrence}
 use Rattle.spawn_check.specs.declared.things.Marks.{Marks}
 use Rattle.spawn_check.specs.Things.{of_expression, of_spot, of_values, of_option, of_statement, of_statements, of_functions}
 use Rattle.spawn_check.specs.Table.{is_before}

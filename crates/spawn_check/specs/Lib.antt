@@ -5,3 +5,4 @@ pub mod First
 pub mod Questions
 pub mod Marking
 pub mod Sharing
+pub mod Words

@@ -15,7 +15,6 @@ use Rattle.source_meaning.specs.declared.tree.Program.{Program}
 use Rattle.spawn_check.specs.declared.things.Thing.{Thing}
 use Rattle.spawn_check.specs.declared.things.Thing.TheVariants as thing
 use Rattle.spawn_check.specs.declared.things.Around.{Around}
-use Rattle.spawn_check.specs.declared.things.Occurrence.{Occurrence}
 
 -- ---- what stands around a thing
 
@@ -30,6 +29,12 @@ in_block = record { inside = true; looped = false }
 -- the body of a loop
 abbrev pub in_loop : Around → Around
 in_loop around = record { inside = around.inside; looped = true }
+
+-- a thing where it stands
+pub record Occurrence : Type 0 where
+  pub thing : Thing
+  pub place : Place
+  pub around : Around
 
 abbrev pub occurrence : Thing → Place → Around → Occurrence
 occurrence thing place around = record { thing = thing; place = place; around = around }

@@ -7,7 +7,7 @@ ghost use Rattle.spawn_check.specs.First.{call_kind, kind_of, earlier, first_wit
 
 use crate::questions::is_marked;
 use crate::refusal::{SpawnKind, SpawnRefusal, comes_before};
-use crate::things::{Around, Marks, Occurrence, Thing};
+use crate::things::{Around, Marks, Thing};
 use source_meaning::{Expr, ExprKind, Function, Spot, Stmt, StmtKind};
 use sqlite_items::Boxed;
 use xmt_base::Place;
@@ -60,17 +60,16 @@ fn earlier_of(first: Option<SpawnRefusal>, refusal: SpawnRefusal) -> SpawnRefusa
 /// The first refusal, when this one is the first of the others.
 fn after_thing(
     marks: &Marks,
-    occurrence: Occurrence,
+    thing: Thing,
+    place: Place,
+    around: Around,
     first: Option<SpawnRefusal>,
 ) -> Option<SpawnRefusal>
-    ensures { result ≡ first_with marks.now first occurrence }
+    ensures { result ≡ first_with marks.now first (occurrence thing place around) }
 {
-    match kind_met(marks, occurrence.thing, occurrence.around) {
+    match kind_met(marks, thing, around) {
         None => first,
-        Some(kind) => {
-            let place = occurrence.place;
-            Some(earlier_of(first, SpawnRefusal { kind, place }))
-        }
+        Some(kind) => Some(earlier_of(first, SpawnRefusal { kind, place })),
     }
 }
 
@@ -86,18 +85,7 @@ fn after_expression(
     let place = e.at;
     match &e.kind {
         ExprKind::Number(_) => first,
-        ExprKind::Dollar => {
-            let thing = Thing::Dollar;
-            after_thing(
-                marks,
-                Occurrence {
-                    thing,
-                    place,
-                    around,
-                },
-                first,
-            )
-        }
+        ExprKind::Dollar => after_thing(marks, Thing::Dollar, place, around, first),
         ExprKind::Read(p) | ExprKind::Step { spot: p, .. } => after_spot(marks, p, around, first),
         ExprKind::Assign(p, e) | ExprKind::Update(_, p, e) => {
             let first = after_spot(marks, p, around, first);
@@ -114,16 +102,7 @@ fn after_expression(
             after_expression(marks, b.get(), around, first)
         }
         ExprKind::Call(function, values) => {
-            let thing = Thing::Call(*function);
-            let first = after_thing(
-                marks,
-                Occurrence {
-                    thing,
-                    place,
-                    around,
-                },
-                first,
-            );
+            let first = after_thing(marks, Thing::Call(*function), place, around, first);
             after_values(marks, values.as_slice(), around, first)
         }
     }
@@ -212,42 +191,19 @@ fn after_statement(
             let first = after_option(marks, third, around, first);
             after_statement(marks, body.get(), around.with_loop(), first)
         }
-        StmtKind::Break | StmtKind::Continue => {
-            let thing = Thing::Jump;
-            after_thing(
-                marks,
-                Occurrence {
-                    thing,
-                    place,
-                    around,
-                },
-                first,
-            )
-        }
+        StmtKind::Break | StmtKind::Continue => after_thing(
+            marks,
+            Thing::Jump,
+            place,
+            around,
+            first,
+        ),
         StmtKind::Return(value) => {
-            let thing = Thing::Return;
-            let first = after_thing(
-                marks,
-                Occurrence {
-                    thing,
-                    place,
-                    around,
-                },
-                first,
-            );
+            let first = after_thing(marks, Thing::Return, place, around, first);
             after_option(marks, value, around, first)
         }
         StmtKind::Spawn(low, high, block) => {
-            let thing = Thing::Spawn;
-            let first = after_thing(
-                marks,
-                Occurrence {
-                    thing,
-                    place,
-                    around,
-                },
-                first,
-            );
+            let first = after_thing(marks, Thing::Spawn, place, around, first);
             let first = after_expression(marks, low.get(), around, first);
             let first = after_expression(marks, high.get(), around, first);
             after_statements(marks, block.as_slice(), Around::block(), first)
@@ -258,16 +214,7 @@ fn after_statement(
             after_spot(marks, p, around, first)
         }
         StmtKind::Print(_, values) => {
-            let thing = Thing::Print;
-            let first = after_thing(
-                marks,
-                Occurrence {
-                    thing,
-                    place,
-                    around,
-                },
-                first,
-            );
+            let first = after_thing(marks, Thing::Print, place, around, first);
             after_values(marks, values.as_slice(), around, first)
         }
     }

@@ -3,8 +3,6 @@
 ghost use Rattle.std.specs.Prelude.{◌≡◌};
 ghost use Rattle.spawn_check.specs.Things.{serial, in_block, in_loop};
 
-use xmt_base::Place;
-
 /// A thing that a rule speaks of.
 #[derive(Clone, Copy)]
 pub(crate) enum Thing {
@@ -61,14 +59,6 @@ impl Around {
             looped: true,
         }
     }
-}
-
-/// A thing where it stands.
-#[derive(Clone, Copy)]
-pub(crate) struct Occurrence {
-    pub thing: Thing,
-    pub place: Place,
-    pub around: Around,
 }
 
 /// What a function may reach by calls.

@@ -69,7 +69,7 @@ fn walk_statements(body: &[Stmt], number: u32) -> Walk<'_>
 }
 
 /// Whether the block of a spawn writes the variable and doesn't declare it.
-fn shares(s: &Stmt, slot: u32) -> bool
+pub(crate) fn shares(s: &Stmt, slot: u32) -> bool
     ensures { result ≡ is_sharing slot s.now.kind }
 {
     match &s.kind {
