@@ -1,0 +1,4 @@
+pub mod Fits
+pub mod Declares
+pub mod Limits
+pub mod Checked

@@ -1,0 +1,3 @@
+pub mod FromSource
+pub mod Branches
+pub mod Law

@@ -1,0 +1,12 @@
+//! That the program of a tree which breaks no rule of names and types is checked, once it meets no
+//! line of the table of spawn blocks.
+#![tactic(auto)]
+
+ghost use Rattle.resolved_programs.specs.Law.{ResolvedProgramsAreChecked, ResolvedProgramsKeepLimits};
+
+/// The program of a tree that breaks no rule of names and types is checked where it meets no line of
+/// the table of spawn blocks, and it keeps to the limits. It does nothing when it runs.
+pub fn resolved_programs_are_sound()
+    ensures checked { ResolvedProgramsAreChecked }
+    ensures limits { ResolvedProgramsKeepLimits }
+{}

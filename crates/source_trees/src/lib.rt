@@ -1,0 +1,10 @@
+//! What every tree has that the tokens of a source spell.
+#![tactic(auto)]
+
+ghost use Rattle.source_trees.specs.Law.{SpelledTreesAreFromSource};
+
+/// The names of a tree that is read from a source are spelled as names, and its texts can be printed.
+/// It does nothing when it runs.
+pub fn spelled_trees_are_from_source()
+    ensures { SpelledTreesAreFromSource }
+{}
