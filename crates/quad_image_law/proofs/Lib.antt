@@ -1,0 +1,12 @@
+pub mod Keeps
+pub mod Units
+pub mod Frames
+pub mod Fits
+pub mod Steps
+pub mod Plain
+pub mod Places
+pub mod Control
+pub mod Returns
+pub mod Threads
+pub mod Over
+pub mod Traces

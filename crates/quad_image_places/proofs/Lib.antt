@@ -1,0 +1,5 @@
+pub mod Own
+pub mod Quiet
+pub mod Tails
+pub mod Laid
+pub mod InImage
