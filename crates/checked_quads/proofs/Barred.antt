@@ -6,9 +6,11 @@ use Rattle.source_meaning.specs.declared.tree.ExprKind.{ExprKind}
 use Rattle.source_meaning.specs.declared.tree.ExprKind.TheVariants as expr
 use Rattle.source_meaning.specs.declared.tree.Stmt.{Stmt}
 use Rattle.source_meaning.specs.declared.tree.StmtKind.{StmtKind}
+use Rattle.source_meaning.specs.declared.tree.StmtKind.TheVariants as stmt
 use Rattle.source_meaning.specs.declared.tree.Function.{Function}
 use Rattle.source_meaning.specs.declared.tree.Program.{Program}
 use Rattle.source_meaning.specs.Inside.{some_of_statement, some_in_list}
+use Rattle.source_meaning.specs.Variables.{is_sharing, is_shared}
 use Rattle.spawn_check.specs.Calls.{is_call, calls}
 use Rattle.spawn_check.proofs.Lifting.{Leads, leads_of_statement, leads_in_list}
 use Rattle.quad_code.specs.Known.{Region, Serial, Inner, InBlock}
@@ -139,3 +141,31 @@ module _ (inner : (function : ℕ) → Bool) where
         by_cause sum good = sums
         by_cause print_or_spawn good = no_serial
         by_cause (outside g) good = no_call g good.1
+
+    each_sharing : (slot : ℕ) (s : StmtKind) → Leads (λ (none : Bool). Unit {0}) (is_sharing slot s) (λ none. is_serial s)
+    each_sharing slot stmt.Empty is = clash (sym is)
+    each_sharing slot (stmt.Value e) is = clash (sym is)
+    each_sharing slot (stmt.Declare other value) is = clash (sym is)
+    each_sharing slot (stmt.Block' shape body) is = clash (sym is)
+    each_sharing slot (stmt.If' test shape body other) is = clash (sym is)
+    each_sharing slot (stmt.While' test shape body) is = clash (sym is)
+    each_sharing slot (stmt.Do' shape body test) is = clash (sym is)
+    each_sharing slot (stmt.For' first_shape first test third shape body) is = clash (sym is)
+    each_sharing slot stmt.Break is = clash (sym is)
+    each_sharing slot stmt.Continue is = clash (sym is)
+    each_sharing slot (stmt.Return value) is = clash (sym is)
+    each_sharing slot (stmt.Spawn' low high shape block) is = (true, tt, refl)
+    each_sharing slot (stmt.Ps v r) is = clash (sym is)
+    each_sharing slot (stmt.Psm v x) is = clash (sym is)
+    each_sharing slot (stmt.Print text values) is = clash (sym is)
+
+    -- it shares no variable, since it has no block
+    pub shares_none : (slot : ℕ) → is_shared function.body slot ≡ false
+    shares_none slot = chosen (is_shared function.body slot) refl
+      where
+        met : (none : Bool) × Unit {0} × (some_in_list is_serial function.body ≡ true) → is_shared function.body slot ≡ false
+        met (none, u, is) = clash (sym is ∙ no_serial)
+
+        chosen : (t : Bool) → is_shared function.body slot ≡ t → is_shared function.body slot ≡ false
+        chosen false is = is
+        chosen true is = met (leads_in_list (λ (none : Bool). Unit {0}) (is_sharing slot) (λ none. is_serial) (each_sharing slot) function.body is)

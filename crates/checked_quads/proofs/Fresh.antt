@@ -74,7 +74,7 @@ pub fresh_front : (known : Known) (front rest : List ℕ) → Fresh known (front
 fresh_front known [] rest fresh = tt
 fresh_front known (slot ∷ front) rest fresh = (fresh.0, fresh_front (with_one known slot) front rest fresh.1)
 
-fresh_rest : (known : Known) (front rest : List ℕ) → Fresh known (front ++ rest) → Fresh (with_all known front) rest
+pub fresh_rest : (known : Known) (front rest : List ℕ) → Fresh known (front ++ rest) → Fresh (with_all known front) rest
 fresh_rest known [] rest fresh = fresh
 fresh_rest known (slot ∷ front) rest fresh = fresh_rest (with_one known slot) front rest fresh.1
 
@@ -122,7 +122,7 @@ same_number : (a b : ℕ) → (a == b) ≡ true → a ≡ b
 same_number a b is = grind (arith, nat_tests)
 
 module _ (x : ℕ) where
-  declared_here : (known : Known) (kind : StmtKind) → is_declaration x kind ≡ true → Fresh known (declared_in kind) → known x ≡ false
+  pub declared_here : (known : Known) (kind : StmtKind) → is_declaration x kind ≡ true → Fresh known (declared_in kind) → known x ≡ false
   declared_here known stmt.Empty is fresh = clash (sym is)
   declared_here known (stmt.Value e) is fresh = clash (sym is)
   declared_here known (stmt.Declare slot value) is fresh = ap known (same_number x slot is) ∙ fresh.0
@@ -155,7 +155,7 @@ module _ (x : ℕ) where
       chosen (inr there) = right there
 
   mutual
-    declared_below : (known : Known) (kind : StmtKind) → some_below (is_declaration x) kind ≡ true → Fresh known (declared_in kind) → known x ≡ false
+    pub declared_below : (known : Known) (kind : StmtKind) → some_below (is_declaration x) kind ≡ true → Fresh known (declared_in kind) → known x ≡ false
     declared_below known stmt.Empty is fresh = clash (sym is)
     declared_below known (stmt.Value e) is fresh = clash (sym is)
     declared_below known (stmt.Declare slot value) is fresh = clash (sym is)
@@ -183,7 +183,7 @@ module _ (x : ℕ) where
         (λ here new. either_way known (is_declaration x kind) (some_below (is_declaration x) kind) here (λ own. declared_here known kind own new) (λ deep. declared_below known kind deep new))
         (λ here new. declared_before known rest here new)
 
-    declared_in_other : (known : Known) (other : Held-StmtKind-If-2) → some_in_other (is_declaration x) other ≡ true → Fresh known (declared_in_else other) → known x ≡ false
+    pub declared_in_other : (known : Known) (other : Held-StmtKind-If-2) → some_in_other (is_declaration x) other ≡ true → Fresh known (declared_in_else other) → known x ≡ false
     declared_in_other known None' is fresh = clash (sym is)
     declared_in_other known (Some' shape body) is fresh = declared_before known body is fresh
 

@@ -4,3 +4,6 @@ pub mod Expressions
 pub mod Statements
 pub mod Barred
 pub mod Programs
+pub mod Unwritten
+pub mod OwnBlocks
+pub mod Numbers

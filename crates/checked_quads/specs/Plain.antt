@@ -1,11 +1,10 @@
--- Programs without prefix-sums and without shared variables.
-use Rattle.std.specs.Prelude.{◌≡◌, ℕ, Bool, true, false, [], All}
+-- Programs without prefix-sums.
+use Rattle.std.specs.Prelude.{◌≡◌, Bool, true, false, [], All}
 use Rattle.source_meaning.specs.declared.tree.StmtKind.{StmtKind}
 use Rattle.source_meaning.specs.declared.tree.StmtKind.TheVariants as stmt
 use Rattle.source_meaning.specs.declared.tree.Function.{Function}
 use Rattle.source_meaning.specs.declared.tree.Program.{Program}
 use Rattle.source_meaning.specs.Inside.{some_in_list}
-use Rattle.source_meaning.specs.Variables.{is_shared}
 
 abbrev pub is_sum : StmtKind → Bool
 is_sum (stmt.Ps v r) = true
@@ -16,7 +15,3 @@ is_sum _ = false
 pub record HasNoSums (program : Program) : Type 0 where
   pub registers : program.registers ≡ []
   pub sums : All (λ (f : Function). some_in_list is_sum f.body ≡ false) program.functions
-
--- no block writes a variable that is declared outside it
-abbrev pub SharesNothing : Program → Type 0
-SharesNothing program = All (λ (f : Function). (slot : ℕ) → is_shared f.body slot ≡ false) program.functions

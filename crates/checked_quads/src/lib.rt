@@ -1,11 +1,10 @@
-//! That a checked program without prefix-sums, of which no block shares a variable, has all that its
-//! quads ask of it.
+//! That a checked program without prefix-sums has all that its quads ask of it.
 #![tactic(auto)]
 
 ghost use Rattle.checked_quads.specs.Law.{CheckedProgramsAreKnown, CheckedProgramsHaveWords};
 
-/// All names are known in a checked program within the limits that has no prefix-sums and no shared
-/// variable, and each of its globals has a word. It does nothing when it runs.
+/// All names are known in a checked program within the limits that has no prefix-sums, and each of its
+/// globals has a word. It does nothing when it runs.
 pub fn checked_programs_have_quads()
     ensures known { CheckedProgramsAreKnown }
     ensures words { CheckedProgramsHaveWords }

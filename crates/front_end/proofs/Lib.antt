@@ -1,1 +1,4 @@
 pub mod Refused
+pub mod Few
+pub mod Accepted
+pub mod Checked

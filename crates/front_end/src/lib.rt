@@ -4,8 +4,9 @@
 mod reading;
 mod refusal;
 
-pub use reading::read_source;
+pub use reading::front;
 pub use refusal::{SourceKind, SourceRefusal};
+pub use xmt_types::Which;
 
 #[cfg(test)]
 mod tests;

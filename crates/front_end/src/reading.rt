@@ -1,16 +1,17 @@
 //! Reads a source: its tokens, its tree, its program.
-ghost use Rattle.std.specs.Prelude.{◌≤◌, ◌^◌, length, IfOk, All};
-ghost use Rattle.source_meaning.specs.Layout.{all_words, HasRoom};
-ghost use Rattle.front_end.specs.Refused.{HasTokens, HasTree};
-ghost use Rattle.front_end.specs.Reads.{Reads, ReadsRules, ReadsTokens, ReadsTree};
+ghost use Rattle.std.specs.Prelude.{◌≤◌, ◌^◌, length, IfOk};
+ghost use Rattle.checked_programs.specs.Checked.{IsChecked};
+ghost use Rattle.front_end.specs.Refused.{HasTokens, IsTree};
+ghost use Rattle.front_end.specs.Reads.{Fronts, ReadsTokens, ReadsTree, ChecksProgram};
 
-use crate::refusal::{SourceKind, SourceRefusal, of_parser, of_tokens};
+use crate::refusal::{SourceKind, SourceRefusal, of_blocks, of_names, of_parser, of_tokens};
 use source_meaning::Program;
+use spawn_check::{check, has_few_words};
 use std::alloc::Global;
-use thin_source::read_thin;
 use xmt_base::Place;
 use xmt_lex::{Token, lex};
 use xmt_parse::{RawProgram, parse};
+use xmt_types::resolve;
 
 // The most bytes of a source.
 const BYTES: usize = 1 << 20;
@@ -19,21 +20,17 @@ const BYTES: usize = 1 << 20;
 const FIRST: Place = Place { line: 1, column: 1 };
 
 /// The program of a source. A source that breaks a rule is refused, at the place of the first one.
-#[tactic(auto, using(crate::proofs::Refused::reads))]
-pub fn read_source(alloc: Global, source: &[u8]) -> Result<Program, SourceRefusal>
-    ensures answer { Reads source.now result }
-    // The globals can be laid out.
-    ensures words { IfOk result (λ program. all_words program.globals ≤ 2 ^ 20) }
-    ensures room { IfOk result (λ program. All HasRoom program.globals) }
+#[tactic(auto, using(crate::proofs::Checked::front_checked))]
+pub fn front(alloc: Global, source: &[u8]) -> Result<Program, SourceRefusal>
+    ensures answer { Fronts source.now result }
+    ensures checked { IfOk result IsChecked }
 {
-    read_by_rules(alloc, source)
+    read(alloc, source)
 }
 
-// The program of a source, or the first rule that the source breaks.
-fn read_by_rules(alloc: Global, source: &[u8]) -> Result<Program, SourceRefusal>
-    ensures answer { ReadsRules source.now result }
-    ensures words { IfOk result (λ program. all_words program.globals ≤ 2 ^ 20) }
-    ensures room { IfOk result (λ program. All HasRoom program.globals) }
+// The program of a source, or the first rule that it breaks.
+fn read(alloc: Global, source: &[u8]) -> Result<Program, SourceRefusal>
+    ensures { Fronts source.now result }
 {
     if source.len() > BYTES {
         return Err(SourceRefusal::Refused(SourceKind::TooLong, FIRST));
@@ -42,7 +39,7 @@ fn read_by_rules(alloc: Global, source: &[u8]) -> Result<Program, SourceRefusal>
         Err(refusal) => Err(refusal),
         Ok(tokens) => match read_tree(alloc, source, tokens.as_slice()) {
             Err(refusal) => Err(refusal),
-            Ok(_) => read_program(alloc, source, tokens.as_slice()),
+            Ok(tree) => read_program(alloc, source, tokens.as_slice(), &tree),
         },
     }
 }
@@ -71,20 +68,36 @@ fn read_tree(alloc: Global, source: &[u8], tokens: &[Token]) -> Result<RawProgra
     }
 }
 
-// The program of a source that has a tree.
-#[tactic(auto, using(crate::proofs::Refused::not_thin))]
-fn read_program(alloc: Global, source: &[u8], tokens: &[Token]) -> Result<Program, SourceRefusal>
+// The program of the tree of a source.
+fn read_program(
+    alloc: Global,
+    source: &[u8],
+    tokens: &[Token],
+    tree: &RawProgram,
+) -> Result<Program, SourceRefusal>
     requires tokens { HasTokens source.now tokens.now }
-    requires tree { HasTree source.now tokens.now }
-    ensures answer { ReadsRules source.now result }
-    ensures words { IfOk result (λ program. all_words program.globals ≤ 2 ^ 20) }
-    ensures room { IfOk result (λ program. All HasRoom program.globals) }
+    requires tree { IsTree source.now tokens.now tree.now }
+    ensures { Fronts source.now result }
 {
-    match read_thin(alloc, source) {
-        Ok(program) => Ok(program),
-        Err(thin_source::SourceRefusal::Refused(_, _)) => {
-            Err(SourceRefusal::Refused(SourceKind::NotThin, FIRST))
+    match resolve(alloc, tree) {
+        Err(refusal) => Err(of_names(refusal)),
+        Ok(program) => check_program(program),
+    }
+}
+
+// The same program, if its blocks and its words break no rule.
+fn check_program(program: Program) -> Result<Program, SourceRefusal>
+    requires { length program.functions ≤ 1000 }
+    ensures { ChecksProgram program result }
+{
+    match check(&program) {
+        Err(refusal) => Err(of_blocks(refusal)),
+        Ok(()) => {
+            if has_few_words(&program) {
+                Ok(program)
+            } else {
+                Err(SourceRefusal::Refused(SourceKind::TooMuchMemory, FIRST))
+            }
         }
-        Err(thin_source::SourceRefusal::NoMemory) => Err(SourceRefusal::NoMemory),
     }
 }

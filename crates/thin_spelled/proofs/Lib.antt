@@ -4,10 +4,11 @@ pub mod Pieces
 pub mod Steps
 pub mod Linked
 pub mod Lexed
+pub mod Trees
 pub mod Parts
 pub mod SideBySide
 pub mod Open
-pub mod Raw
 pub mod MainWord
+pub mod Raw
 pub mod Whole
 pub mod NotRefused

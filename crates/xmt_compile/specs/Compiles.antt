@@ -3,7 +3,7 @@ use Rattle.std.specs.Prelude.{List, ℕ, Result, Ok, Err}
 use Rattle.source_meaning.specs.declared.tree.Program.{Program}
 use Rattle.front_end.specs.declared.refusal.SourceRefusal.{SourceRefusal}
 use Rattle.front_end.specs.declared.refusal.SourceRefusal.TheVariants.{Refused, NoMemory}
-use Rattle.front_end.specs.Refused.{IsRefusedFor}
+use Rattle.thin_reading.specs.Reads.{IsRefusedFor}
 use Rattle.thin_source.specs.Thin.{IsThin, HasNoProgram}
 use Rattle.xmt_isa.specs.declared.image.Image.{Image}
 use Rattle.xmt_compile.specs.Implements.{Implements}

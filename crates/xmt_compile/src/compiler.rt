@@ -1,9 +1,10 @@
 //! The compiler.
 ghost use Rattle.xmt_compile.specs.Compiles.{Compiles};
 
-use front_end::{SourceRefusal, read_source};
+use front_end::SourceRefusal;
 use std::alloc::Global;
 use thin_code::image_of;
+use thin_reading::read_source;
 use xmt_isa::Image;
 
 /// The image of a source, which implements the source's program. A source that breaks a rule is

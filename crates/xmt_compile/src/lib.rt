@@ -6,7 +6,7 @@ mod compiler;
 mod law;
 
 pub use compiler::compile;
-pub use front_end::{SourceKind, SourceRefusal};
+pub use front_end::{SourceKind, SourceRefusal, Which, front};
 pub use law::traces_implement;
 
 #[cfg(test)]

@@ -4,11 +4,11 @@ use Rattle.std.specs.Prelude.{IsSomeAnd}
 use Rattle.xmt_base.specs.Host.{FileMap, IsWholeFile, IsLonger}
 use Rattle.thin_source.specs.Thin.{HasNoProgram}
 use Rattle.xmt_base.specs.declared.values.Place.{Place}
-use Rattle.thin_source.specs.Tokens.{first_place}
 use Rattle.front_end.specs.declared.refusal.SourceKind.{SourceKind}
 use Rattle.front_end.specs.declared.refusal.SourceKind.TheVariants as rule
 use Rattle.front_end.specs.declared.refusal.SourceRefusal.{SourceRefusal}
 use Rattle.front_end.specs.declared.refusal.SourceRefusal.TheVariants as source
+use Rattle.front_end.specs.Refused.{first_place, length_is_broken}
 use Rattle.xmt_isa.specs.declared.run.SimOptions.{SimOptions}
 use Rattle.xmt_cli.specs.Given.{Text}
 use Rattle.xmt_compile.specs.Compiles.{Compiles}
@@ -20,7 +20,7 @@ use Rattle.xmt_top.specs.Sources.{Breaks, IsRefused, MustBeRefused}
 -- a source of more than 2^20 bytes has no program
 longer : (o : Option (List ℕ)) → IsSomeAnd o (λ bytes. 2 ^ 20 < length bytes) → IsSomeAnd o (Breaks rule.TooLong first_place)
 longer None h = absurd h
-longer (Some bytes) h = ((h, refl), λ program thin. absurd (omega (arith, h, thin.short)))
+longer (Some bytes) h = (inl (length_is_broken refl refl h), λ program thin. absurd (omega (arith, h, thin.short)))
 
 pub refused_longer : (told : Option FileMap) (name : List ℕ) → IsLonger told name (2 ^ 20) → IsRefused told name rule.TooLong first_place
 refused_longer told name h = λ files is. longer (files name) (h files is)

@@ -6,6 +6,8 @@ use Rattle.xmt_base.specs.declared.values.TrapKind.{TrapKind}
 use Rattle.xmt_base.specs.declared.values.TrapKind.TheVariants.{DivideByZero, Index, PsIncrement, CallDepth, Address}
 use Rattle.xmt_base.specs.declared.values.Trap.{Trap}
 use Rattle.xmt_base.specs.Operators.{signed}
+use Rattle.name_scopes.specs.declared.fault.Which.{Which}
+use Rattle.name_scopes.specs.declared.fault.Which.TheVariants as which
 use Rattle.front_end.specs.declared.refusal.SourceKind.{SourceKind}
 use Rattle.front_end.specs.declared.refusal.SourceKind.TheVariants as rule
 
@@ -18,6 +20,16 @@ fault_line = codes "xmt: host fault\n"
 abbrev pub no_memory_line : List ℕ
 no_memory_line = codes "xmt: out of memory\n"
 
+abbrev pub limit_name : Which → List ℕ
+limit_name which.Variables = codes "TooMany Variables"
+limit_name which.Parameters = codes "TooMany Parameters"
+limit_name which.Globals = codes "TooMany Globals"
+limit_name which.Functions = codes "TooMany Functions"
+limit_name which.Registers = codes "TooMany Registers"
+limit_name which.PrintValues = codes "TooMany PrintValues"
+limit_name which.Waiting = codes "TooMany Waiting"
+limit_name which.Nodes = codes "TooMany Nodes"
+
 abbrev pub rule_name : SourceKind → List ℕ
 rule_name rule.TooLong = codes "TooLong"
 rule_name rule.BadByte = codes "BadByte"
@@ -28,6 +40,27 @@ rule_name rule.BadEscape = codes "BadEscape"
 rule_name rule.HashLine = codes "HashLine"
 rule_name rule.TooDeep = codes "TooDeep"
 rule_name rule.Syntax = codes "Syntax"
+rule_name rule.Unknown = codes "Unknown"
+rule_name rule.Double = codes "Double"
+rule_name rule.NotScalar = codes "NotScalar"
+rule_name rule.NotArray = codes "NotArray"
+rule_name rule.NotFunction = codes "NotFunction"
+rule_name rule.NotRegister = codes "NotRegister"
+rule_name rule.WrongCount = codes "WrongCount"
+rule_name rule.BadFormat = codes "BadFormat"
+rule_name rule.VoidValue = codes "VoidValue"
+rule_name rule.ConstWrite = codes "ConstWrite"
+rule_name rule.NotConstant = codes "NotConstant"
+rule_name rule.BadLength = codes "BadLength"
+rule_name (rule.TooMany limit) = limit_name limit
+rule_name rule.NoMain = codes "NoMain"
+rule_name rule.DollarOutside = codes "DollarOutside"
+rule_name rule.ReturnInside = codes "ReturnInside"
+rule_name rule.JumpOut = codes "JumpOut"
+rule_name rule.Nested = codes "Nested"
+rule_name rule.PrintInside = codes "PrintInside"
+rule_name rule.CallReachesSpawn = codes "CallReachesSpawn"
+rule_name rule.TooMuchMemory = codes "TooMuchMemory"
 rule_name rule.NotThin = codes "NotThin"
 
 -- the line for a source that breaks a rule at a place; it isn't unfolded, so that proofs carry it as it stands

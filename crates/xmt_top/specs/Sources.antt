@@ -6,7 +6,7 @@ use Rattle.std.specs.Option.{ForSome}
 use Rattle.xmt_base.specs.Host.{FileMap}
 use Rattle.thin_source.specs.Thin.{HasNoProgram}
 use Rattle.front_end.specs.declared.refusal.SourceKind.{SourceKind}
-use Rattle.front_end.specs.Refused.{IsRefusedFor}
+use Rattle.thin_reading.specs.Reads.{IsRefusedFor}
 use Rattle.xmt_top.specs.Complaints.{Complains}
 use Rattle.xmt_top.specs.Messages.{refusal_line}
 

@@ -2,11 +2,11 @@
 ghost use Rattle.std.specs.Prelude.{◌≡◌, ◌++◌, IfOk, codes, string_bytes};
 ghost use Rattle.std.specs.Fmt.{decimal, signed_decimal};
 ghost use Rattle.xmt_base.specs.Operators.{signed};
-ghost use Rattle.xmt_top.specs.Messages.{kind_name, rule_name, refusal_line, spent_line, trap_line};
+ghost use Rattle.xmt_top.specs.Messages.{kind_name, limit_name, rule_name, refusal_line, spent_line, trap_line};
 
 use std::alloc::{AllocError, Global};
 use xmt_base::{Place, Trap, TrapKind};
-use xmt_compile::SourceKind;
+use xmt_compile::{SourceKind, Which};
 
 /// The line for words that are no job.
 pub(crate) const NO_JOB: &[u8] =
@@ -17,6 +17,21 @@ pub(crate) const HOST_FAULT: &[u8] = b"xmt: host fault\n";
 
 /// The line for want of memory.
 pub(crate) const NO_MEMORY: &[u8] = b"xmt: out of memory\n";
+
+fn limit_name(limit: Which) -> &'static str
+    ensures { result.now ≡ limit_name limit }
+{
+    match limit {
+        Which::Variables => "TooMany Variables",
+        Which::Parameters => "TooMany Parameters",
+        Which::Globals => "TooMany Globals",
+        Which::Functions => "TooMany Functions",
+        Which::Registers => "TooMany Registers",
+        Which::PrintValues => "TooMany PrintValues",
+        Which::Waiting => "TooMany Waiting",
+        Which::Nodes => "TooMany Nodes",
+    }
+}
 
 fn rule_name(kind: SourceKind) -> &'static str
     ensures { result.now ≡ rule_name kind }
@@ -31,6 +46,27 @@ fn rule_name(kind: SourceKind) -> &'static str
         SourceKind::HashLine => "HashLine",
         SourceKind::TooDeep => "TooDeep",
         SourceKind::Syntax => "Syntax",
+        SourceKind::Unknown => "Unknown",
+        SourceKind::Double => "Double",
+        SourceKind::NotScalar => "NotScalar",
+        SourceKind::NotArray => "NotArray",
+        SourceKind::NotFunction => "NotFunction",
+        SourceKind::NotRegister => "NotRegister",
+        SourceKind::WrongCount => "WrongCount",
+        SourceKind::BadFormat => "BadFormat",
+        SourceKind::VoidValue => "VoidValue",
+        SourceKind::ConstWrite => "ConstWrite",
+        SourceKind::NotConstant => "NotConstant",
+        SourceKind::BadLength => "BadLength",
+        SourceKind::TooMany(limit) => limit_name(limit),
+        SourceKind::NoMain => "NoMain",
+        SourceKind::DollarOutside => "DollarOutside",
+        SourceKind::ReturnInside => "ReturnInside",
+        SourceKind::JumpOut => "JumpOut",
+        SourceKind::Nested => "Nested",
+        SourceKind::PrintInside => "PrintInside",
+        SourceKind::CallReachesSpawn => "CallReachesSpawn",
+        SourceKind::TooMuchMemory => "TooMuchMemory",
         SourceKind::NotThin => "NotThin",
     }
 }

@@ -241,7 +241,7 @@ static THIN: [(&str, u8, &str, &str); 37] = [
 ];
 
 // Sources that are refused, and how the line on the error stream ends.
-const OTHERS: [(&str, &str); 21] = [
+static OTHERS: [(&str, &str); 29] = [
     // the tokens
     ("3x", "1:1: BadNumber"),
     ("main(){}\n@", "2:1: BadByte"),
@@ -252,24 +252,45 @@ const OTHERS: [(&str, &str); 21] = [
     // the grammar
     ("", "1:1: Syntax"),
     ("main() {\n  x = ;\n}", "2:7: Syntax"),
-    // programs that aren't thin
-    ("main() { while (1) ; }", "1:1: NotThin"),
-    ("main() { x = 1; }", "1:1: NotThin"),
-    ("int x; int x; main() { }", "1:1: NotThin"),
-    ("int main; main() { }", "1:1: NotThin"),
-    ("int A[0]; main() { }", "1:1: NotThin"),
-    ("int A[2]; main() { A = 1; }", "1:1: NotThin"),
-    ("int x; main() { x[0] = 1; }", "1:1: NotThin"),
-    ("int x; main() { x = $; }", "1:1: NotThin"),
+    // names and types
+    ("main() { x = 1; }", "1:10: Unknown"),
+    ("int x; int x; main() {}", "1:12: Double"),
+    ("int main; main() { }", "1:11: Double"),
+    ("const int c = 1; main() { c = 2; }", "1:27: ConstWrite"),
+    ("int x = 1 / 0; main() {}", "1:9: NotConstant"),
+    ("int A[0]; main() {}", "1:5: BadLength"),
+    ("int A[2]; main() { A = 1; }", "1:20: NotScalar"),
+    ("int x; main() { x[0] = 1; }", "1:17: NotArray"),
+    ("void f() { } main() { return f(); }", "1:30: VoidValue"),
+    ("int f() { return 0; }", "1:22: NoMain"),
+    ("main() { printf(\"%d\\n\"); }", "1:10: WrongCount"),
+    (
+        "psBaseReg a, b, c, d, e, f, g, h, i; main() {}",
+        "1:35: TooMany Registers",
+    ),
+    // spawn blocks
+    ("main() { int i; i = $; }", "1:21: DollarOutside"),
+    (
+        "int g() { spawn(0, 1) { } return 0; } main() { spawn(0, 1) { int k = g(); } }",
+        "1:70: CallReachesSpawn",
+    ),
+    ("main() { spawn(0, 1) { spawn(0, 1) { } } }", "1:24: Nested"),
     (
         "main() { spawn(0, 1) { printf(\"%d\\n\", 1); } }",
-        "1:1: NotThin",
+        "1:24: PrintInside",
     ),
+    // words
+    ("int A[1048577]; main() { }", "1:1: TooMuchMemory"),
+    // programs that aren't thin
+    ("main() { while (1) ; }", "1:1: NotThin"),
     ("main() { printf(\"%d\\n\", 2147483648); }", "1:1: NotThin"),
-    ("int A[1048577]; main() { }", "1:1: NotThin"),
     ("main() { } // comment", "1:1: NotThin"),
     ("main() { spawn(0, 1) { } spawn(0, 1) { } }", "1:1: NotThin"),
 ];
+
+fn others() -> &'static [(&'static str, &'static str)] {
+    &OTHERS
+}
 
 // The line for a refused source that ends so.
 fn refusal(alloc: Global, end: &str) -> Result<String, Fail> {
@@ -321,9 +342,9 @@ fn sources_run_on_seventeen_units(rt: HostRuntime) -> Result<(), Fail> {
 
 #[test]
 fn other_sources_are_refused(rt: HostRuntime) -> Result<(), Fail> {
-    for (source, end) in OTHERS {
+    for (source, end) in others() {
         let (found, host) = run(&rt, "run p.xmtc", source.as_bytes(), None)?;
-        let wanted = refusal(rt.alloc(), end)?;
+        let wanted = refusal(rt.alloc(), *end)?;
         assert_eq!(rt; found, 1, "{source}");
         assert!(rt; host.out.is_empty(), "output of {source}");
         assert!(rt;

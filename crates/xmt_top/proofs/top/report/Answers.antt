@@ -36,3 +36,21 @@ returns-in-Ok-clause-refused g c =
 
 pub returns-in-Ok-spent_line-clause-codes : goal.returns-in-Ok-spent_line-clause-codes
 returns-in-Ok-spent_line-clause-codes g c = code_or (0 ∷ 1 ∷ 4 ∷ 5 ∷ 6 ∷ 7 ∷ []) 5 _ (3, omega arith, refl) (5, omega arith, refl) c.complain-in-Ok-spent_line.ensures.code
+
+pub returns-in-Ok-clause-codes : goal.returns-in-Ok-clause-codes
+returns-in-Ok-clause-codes g c = code_or (0 ∷ 1 ∷ 4 ∷ 5 ∷ 6 ∷ 7 ∷ []) 1 _ (1, omega arith, refl) (5, omega arith, refl) c.complain.ensures.code
+
+pub returns-in-Ok-clause-refused_only : goal.returns-in-Ok-clause-refused_only
+returns-in-Ok-clause-refused_only g c = λ given. code_or (1 ∷ 6 ∷ 7 ∷ []) 1 _ (0, omega arith, refl) (2, omega arith, refl) c.complain.ensures.code
+
+pub returns-in-Ok-trap_line-clause-codes : goal.returns-in-Ok-trap_line-clause-codes
+returns-in-Ok-trap_line-clause-codes g c = code_or (0 ∷ 1 ∷ 4 ∷ 5 ∷ 6 ∷ 7 ∷ []) 4 _ (2, omega arith, refl) (5, omega arith, refl) c.complain-in-Ok-trap_line.ensures.code
+
+pub returns-in-Fault-clause-codes : goal.returns-in-Fault-clause-codes
+returns-in-Fault-clause-codes g c = code_or (0 ∷ 1 ∷ 4 ∷ 5 ∷ 6 ∷ 7 ∷ []) 6 _ (4, omega arith, refl) (5, omega arith, refl) c.complain-in-Fault.ensures.code
+
+pub returns-in-Fault-clause-refused_only : goal.returns-in-Fault-clause-refused_only
+returns-in-Fault-clause-refused_only g c = λ given. code_or (1 ∷ 6 ∷ 7 ∷ []) 6 _ (1, omega arith, refl) (2, omega arith, refl) c.complain-in-Fault.ensures.code
+
+pub returns-in-NoMemory-clause-codes : goal.returns-in-NoMemory-clause-codes
+returns-in-NoMemory-clause-codes g c = code_or (0 ∷ 1 ∷ 4 ∷ 5 ∷ 6 ∷ 7 ∷ []) 7 _ (5, omega arith, refl) (5, omega arith, refl) c.complain-in-NoMemory.ensures.code
