@@ -46,7 +46,7 @@ size_weighs (quad.Add r (Outer n) o) = omega arith
 size_weighs (quad.Add r (PsReg n) o) = omega arith
 size_weighs _ = omega arith
 
-sizes_weigh : (functions : List QuadFunction) → sizes_of functions ≤ sum_by (λ f. sum_by weight f.quads) functions
+pub sizes_weigh : (functions : List QuadFunction) → sizes_of functions ≤ sum_by (λ f. sum_by weight f.quads) functions
 sizes_weigh functions = sum_by-le-sum_by (λ (f : QuadFunction). size_of f.quads) (λ (f : QuadFunction). sum_by weight f.quads) functions (λ f. sum_by-le-sum_by size weight f.quads size_weighs)
 
 all_lines : (functions : List QuadFunction) → All (λ f. length f.lines ≡ length f.quads) functions → length (lines_of_all functions) ≡ sizes_of functions
