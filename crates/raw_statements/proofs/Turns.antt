@@ -14,7 +14,7 @@ use Rattle.raw_tree.specs.declared.tree.RawStmt.{RawStmt}
 use Rattle.raw_tree.specs.Level.{Tokens}
 use Rattle.raw_tree.specs.Gives.{Gives}
 use Rattle.raw_tree.specs.Reading.{Got, ReaderOf, Reader, got, past, expression, open_round, close_round, comma}
-use Rattle.raw_tree.specs.ReadingStatements.{after, semicolon, open_curly, close_curly, body, read_first, read_maybe, read_for, read_spawn, begun_stmt, stmt_of, read_stmt}
+use Rattle.raw_tree.specs.ReadingStatements.{after, semicolon, open_curly, close_curly, body, read_first, read_maybe, read_for, read_spawn, read_declare, begun_stmt, stmt_of, declare_at, read_stmt, read_piece}
 use Rattle.raw_statements.specs.Heads.{for_head, for_in_parts, spawn_in_parts}
 use Rattle.raw_tree.proofs.Parted.{past_some}
 
@@ -32,57 +32,63 @@ module _ (source : List ℕ) where
   stmt_deepest zero ts h = refl
   stmt_deepest (suc d) ts h = absurd (cc)
 
-  pub stmt_deeper : (d : ℕ) (ts : Tokens) → 0 < d → read_stmt source d ts ≡ stmt_of source (expression source (d - 1)) (expression source (pred (d - 1))) (read_stmt source (d - 1)) ts
+  pub stmt_deeper : (d : ℕ) (ts : Tokens) → 0 < d → read_stmt source d ts ≡ stmt_of source (expression source (d - 1)) (expression source (pred (d - 1))) (read_stmt source (d - 1)) (read_piece source (d - 1)) ts
   unfolding read_stmt
   stmt_deeper zero ts h = absurd (omega (arith, h))
   stmt_deeper (suc d) ts h = let is : suc d - 1 ≡ d = omega arith in rw (is)
 
-  pub stmt_empty : (d : ℕ) → read_stmt source d [] ≡ None
-  unfolding read_stmt
-  stmt_empty zero = refl
-  stmt_empty (suc d) = refl
+  pub piece_empty : (d : ℕ) → read_piece source d [] ≡ None
+  piece_empty d = refl
+
+  pub declare_deepest : (d : ℕ) (ts : Tokens) → d ≡ 0 → declare_at source d ts ≡ None
+  declare_deepest zero ts h = refl
+  declare_deepest (suc d) ts h = absurd (cc)
+
+  pub declare_deeper : (d : ℕ) (ts : Tokens) → 0 < d → declare_at source d ts ≡ read_declare source (expression source (d - 1)) ts
+  declare_deeper zero ts h = absurd (omega (arith, h))
+  declare_deeper (suc d) ts h = let is : suc d - 1 ≡ d = omega arith in rw (is)
 
 -- a body; x is what the loop comes to
-module _ (inner : ReaderOf RawStmt) (at_end : inner [] ≡ None) where
-  body_closed : (turns : ℕ) (done : List RawStmt) (ts us : Tokens) (t : Token) → ts ≡ t ∷ us → close_curly t.kind ≡ true → body inner turns done ts ≡ got done 0 us
+module _ (piece : ReaderOf RawStmt) (at_end : piece [] ≡ None) where
+  body_closed : (turns : ℕ) (done : List RawStmt) (ts us : Tokens) (t : Token) → ts ≡ t ∷ us → close_curly t.kind ≡ true → body piece turns done ts ≡ got done 0 us
   unfolding body
   body_closed zero done ts us t is here = rw (is, body, here)
   body_closed (suc f) done ts us t is here = rw (is, body, here)
 
-  body_none : (turns : ℕ) (done : List RawStmt) (ts : Tokens) → past close_curly ts ≡ None → inner ts ≡ None → body inner turns done ts ≡ None
+  body_none : (turns : ℕ) (done : List RawStmt) (ts : Tokens) → past close_curly ts ≡ None → piece ts ≡ None → body piece turns done ts ≡ None
   unfolding body
   body_none zero done [] unclosed none = refl
   body_none (suc f) done [] unclosed none = refl
   body_none zero done (t ∷ ts) unclosed none = let here : close_curly t.kind ≡ false = past_none close_curly t ts unclosed in rw here
   body_none (suc f) done (t ∷ ts) unclosed none = let here : close_curly t.kind ≡ false = past_none close_curly t ts unclosed in rw (here, none)
 
-  body_spent : (turns : ℕ) (done : List RawStmt) (ts : Tokens) → past close_curly ts ≡ None → turns ≡ 0 → body inner turns done ts ≡ None
+  body_spent : (turns : ℕ) (done : List RawStmt) (ts : Tokens) → past close_curly ts ≡ None → turns ≡ 0 → body piece turns done ts ≡ None
   unfolding body
   body_spent zero done [] unclosed spent = refl
   body_spent zero done (t ∷ ts) unclosed spent = let here : close_curly t.kind ≡ false = past_none close_curly t ts unclosed in rw here
   body_spent (suc f) done ts unclosed spent = absurd (omega (arith, spent))
 
-  body_goes : (turns : ℕ) (done : List RawStmt) (ts : Tokens) (g : Got RawStmt) → past close_curly ts ≡ None → 0 < turns → inner ts ≡ Some g → body inner turns done ts ≡ body inner (turns - 1) (done ++ g.tree ∷ []) g.rest
+  body_goes : (turns : ℕ) (done : List RawStmt) (ts : Tokens) (g : Got RawStmt) → past close_curly ts ≡ None → 0 < turns → piece ts ≡ Some g → body piece turns done ts ≡ body piece (turns - 1) (done ++ g.tree ∷ []) g.rest
   unfolding body
   body_goes zero done ts g unclosed some found = absurd (omega (arith, some))
   body_goes (suc f) done [] g unclosed some found = let both : None ≡ Some g = sym at_end ∙ found in absurd (cc)
   body_goes (suc f) done (t ∷ ts) g unclosed some found =
       let here : close_curly t.kind ≡ false = past_none close_curly t ts unclosed in let less : suc f - 1 ≡ f = omega arith in rw (less, here, found)
 
-  exit_at : (e : ReadError) (turns : ℕ) (done : List RawStmt) (ts : Tokens) (x : Option (Got (List RawStmt))) → body inner turns done ts ≡ x → past close_curly ts ≡ None → Gives (Err e) (inner ts) → Gives (Err e) x
+  exit_at : (e : ReadError) (turns : ℕ) (done : List RawStmt) (ts : Tokens) (x : Option (Got (List RawStmt))) → body piece turns done ts ≡ x → past close_curly ts ≡ None → Gives (Err e) (piece ts) → Gives (Err e) x
   exit_at (Syntax left) turns done ts x so_far unclosed none = sym so_far ∙ body_none turns done ts unclosed none
   exit_at NoMemory turns done ts x so_far unclosed none = tt
 
-  pub body_exit : (turns : ℕ) (done : List RawStmt) (ts : Tokens) (x : Option (Got (List RawStmt))) (r : Result (Read (List RawStmt)) ReadError) {y e : ReadError} → r ≡ Err y → y ≡ e → body inner turns done ts ≡ x → past close_curly ts ≡ None → Gives (Err e) (inner ts) → Gives r x
+  pub body_exit : (turns : ℕ) (done : List RawStmt) (ts : Tokens) (x : Option (Got (List RawStmt))) (r : Result (Read (List RawStmt)) ReadError) {y e : ReadError} → r ≡ Err y → y ≡ e → body piece turns done ts ≡ x → past close_curly ts ≡ None → Gives (Err e) (piece ts) → Gives r x
   body_exit turns done ts x r {y} {e} is same so_far unclosed none = rw (is, same) (exit_at e turns done ts x so_far unclosed none)
 
-  pub body_end : (turns : ℕ) (done : List RawStmt) (ts us : Tokens) (x : Option (Got (List RawStmt))) → body inner turns done ts ≡ x → past close_curly ts ≡ Some us → x ≡ got done 0 us
+  pub body_end : (turns : ℕ) (done : List RawStmt) (ts us : Tokens) (x : Option (Got (List RawStmt))) → body piece turns done ts ≡ x → past close_curly ts ≡ Some us → x ≡ got done 0 us
   body_end turns done ts us x so_far closed = let p = past_some close_curly ts us closed in sym so_far ∙ body_closed turns done ts us p.0 p.1 p.2
 
-  pub body_ends_none : (turns : ℕ) (done : List RawStmt) (ts : Tokens) (x : Option (Got (List RawStmt))) → body inner turns done ts ≡ x → past close_curly ts ≡ None → turns ≡ 0 → x ≡ None
+  pub body_ends_none : (turns : ℕ) (done : List RawStmt) (ts : Tokens) (x : Option (Got (List RawStmt))) → body piece turns done ts ≡ x → past close_curly ts ≡ None → turns ≡ 0 → x ≡ None
   body_ends_none turns done ts x so_far unclosed spent = sym so_far ∙ body_spent turns done ts unclosed spent
 
-  pub body_turn : (turns : ℕ) (done : List RawStmt) (ts : Tokens) (x : Option (Got (List RawStmt))) (g : Got RawStmt) (all : List RawStmt) → body inner turns done ts ≡ x → past close_curly ts ≡ None → 0 < turns → inner ts ≡ Some g → all ≡ done ++ g.tree ∷ [] → body inner (turns - 1) all g.rest ≡ x
+  pub body_turn : (turns : ℕ) (done : List RawStmt) (ts : Tokens) (x : Option (Got (List RawStmt))) (g : Got RawStmt) (all : List RawStmt) → body piece turns done ts ≡ x → past close_curly ts ≡ None → 0 < turns → piece ts ≡ Some g → all ≡ done ++ g.tree ∷ [] → body piece (turns - 1) all g.rest ≡ x
   body_turn turns done ts x g all so_far unclosed some found put = rw put (sym (body_goes turns done ts g unclosed some found) ∙ so_far)
 
 -- ---- statements that are read in two parts
@@ -115,11 +121,11 @@ for_exit source d k inner t ts r {y} {e} less is same none =
     let at : Gives (Err e) (for_head source (expression source d) (expression source (pred d)) ts) = subst (λ (i : ℕ). Gives (Err e) (for_head source (expression source d) (expression source i) ts)) (less ∙ sub-one d) none in
     rw (is, same) (after_exit e (for_head source (expression source d) (expression source (pred d)) ts) _ at)
 
-pub begun_for : (source : List ℕ) (whole less : Reader) (inner : ReaderOf RawStmt) (ts : Tokens) (none : Token) (word : Keyword) (r : Result (Read RawStmt) ReadError) → 1 ≤ length ts → (get_or ts 0 none).kind ≡ kind.Keyword word → word ≡ k.For → Gives r (for_in_parts source whole less inner (get_or ts 0 none) (take (length ts - 1) (drop 1 ts))) → Gives r (stmt_of source whole less inner ts)
-begun_for source whole less inner [] none word r some is here given = absurd (omega (arith, some))
-begun_for source whole less inner (t ∷ ts) none word r some is here given =
-    let step : begun_stmt source whole less inner t t.kind ts ≡ for_in_parts source whole less inner t ts =
-    ap (λ (w : TokenKind). begun_stmt source whole less inner t w ts) (is ∙ ap (λ (w : Keyword). kind.Keyword w) here) ∙ for_parted source whole less inner t ts
+pub begun_for : (source : List ℕ) (whole less : Reader) (inner piece : ReaderOf RawStmt) (ts : Tokens) (none : Token) (word : Keyword) (r : Result (Read RawStmt) ReadError) → 1 ≤ length ts → (get_or ts 0 none).kind ≡ kind.Keyword word → word ≡ k.For → Gives r (for_in_parts source whole less inner (get_or ts 0 none) (take (length ts - 1) (drop 1 ts))) → Gives r (stmt_of source whole less inner piece ts)
+begun_for source whole less inner piece [] none word r some is here given = absurd (omega (arith, some))
+begun_for source whole less inner piece (t ∷ ts) none word r some is here given =
+    let step : begun_stmt source whole less inner piece t t.kind ts ≡ for_in_parts source whole less inner t ts =
+    ap (λ (w : TokenKind). begun_stmt source whole less inner piece t w ts) (is ∙ ap (λ (w : Keyword). kind.Keyword w) here) ∙ for_parted source whole less inner t ts
     in
     let all : take (length (t ∷ ts) - 1) ts ≡ ts = take_all _ ts (omega arith) in
     subst (λ (x : Option (Got RawStmt)). Gives r x) (ap (λ (us : Tokens). for_in_parts source whole less inner t us) all ∙ sym step) given

@@ -11,10 +11,10 @@ use crate::statement_nodes::{
     while_loop,
 };
 use crate::statements::{
-    read_declare, read_do_behind, read_for_head, read_print, read_ps, read_psm, read_return,
+    declare_at, read_do_behind, read_for_head, read_print, read_ps, read_psm, read_return,
     read_round, read_spawn_head, read_value, read_word_alone,
 };
-use raw_tree::kinds::Expected;
+use raw_tree::kinds::{Expected, begins_type};
 use raw_tree::read::{Read, ReadError, behind};
 use raw_tree::{RawStmt, RawStmtKind};
 use sqlite_items::Items;
@@ -48,7 +48,7 @@ fn begun<'a>(
     ts: &'a [Token],
 ) -> Result<Read<'a, RawStmt>, ReadError>
     requires { d < 2 ^ 20 }
-    ensures { gives.Gives result (code.stmt_of source.now (spec.expression source.now d) (spec.expression source.now (pred d)) (code.read_stmt source.now d) ts.now) }
+    ensures { gives.Gives result (code.stmt_of source.now (spec.expression source.now d) (spec.expression source.now (pred d)) (code.read_stmt source.now d) (code.read_piece source.now d) ts.now) }
 {
     match ts {
         [] => Err(ReadError::Syntax(0)),
@@ -72,7 +72,7 @@ fn begun<'a>(
             TokenKind::Keyword(Keyword::Printf) => read_print(alloc, source, d, *t, more),
             TokenKind::Keyword(Keyword::Int)
             | TokenKind::Keyword(Keyword::Const)
-            | TokenKind::Keyword(Keyword::Volatile) => read_declare(alloc, source, d, ts),
+            | TokenKind::Keyword(Keyword::Volatile) => Err(ReadError::Syntax(ts.len())),
             _ => read_value(alloc, source, d, ts),
         },
     }
@@ -87,7 +87,7 @@ fn read_block<'a>(
     ts: &'a [Token],
 ) -> Result<Read<'a, RawStmt>, ReadError>
     requires { d < 2 ^ 20 }
-    ensures { gives.Gives result (code.read_block (code.read_stmt source.now d) t ts.now) }
+    ensures { gives.Gives result (code.read_block (code.read_piece source.now d) t ts.now) }
 {
     let body = read_body(alloc, source, d, ts)?;
     Ok(block(t.place, body))
@@ -186,14 +186,37 @@ fn read_spawn<'a>(
     ts: &'a [Token],
 ) -> Result<Read<'a, RawStmt>, ReadError>
     requires { d < 2 ^ 20 }
-    ensures { gives.Gives result (heads.spawn_in_parts (spec.expression source.now d) (code.read_stmt source.now d) t ts.now) }
+    ensures { gives.Gives result (heads.spawn_in_parts (spec.expression source.now d) (code.read_piece source.now d) t ts.now) }
 {
     let head = read_spawn_head(alloc, source, d, ts)?;
     let body = read_body(alloc, source, d, head.rest)?;
     spawn(alloc, t.place, head, body)
 }
 
-/// Statements, and the `}` behind them.
+// A declaration where the first token begins a type, and a statement elsewhere.
+#[cycle(statements)]
+fn read_piece<'a>(
+    alloc: Global,
+    source: &[u8],
+    d: u32,
+    ts: &'a [Token],
+) -> Result<Read<'a, RawStmt>, ReadError>
+    requires { d < 2 ^ 20 }
+    ensures { gives.Gives result (code.read_piece source.now d ts.now) }
+{
+    match ts {
+        [] => Err(ReadError::Syntax(0)),
+        [t, ..] => {
+            if begins_type(t.kind) {
+                declare_at(alloc, source, d, ts)
+            } else {
+                read_statement(alloc, source, d, ts)
+            }
+        }
+    }
+}
+
+/// Declarations and statements, and the `}` behind them.
 #[cycle(statements)]
 pub fn read_body<'a>(
     alloc: Global,
@@ -202,7 +225,7 @@ pub fn read_body<'a>(
     ts: &'a [Token],
 ) -> Result<Read<'a, Items<RawStmt>>, ReadError>
     requires { d < 2 ^ 20 }
-    ensures { gives.Gives result (code.read_body (code.read_stmt source.now d) ts.now) }
+    ensures { gives.Gives result (code.read_body (code.read_piece source.now d) ts.now) }
 {
     let mut all = Items::new(alloc);
     let mut left = ts;
@@ -220,7 +243,7 @@ pub fn read_body<'a>(
                 if turns == 0 {
                     return Err(ReadError::Syntax(left.len()));
                 }
-                let one = read_statement(alloc, source, d, left)?;
+                let one = read_piece(alloc, source, d, left)?;
                 let Read { tree, rest, .. } = one;
                 all.push(tree)?;
                 turns -= 1;

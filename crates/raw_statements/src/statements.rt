@@ -156,7 +156,7 @@ pub fn read_word_alone<'a>(tree: RawStmt, ts: &'a [Token]) -> Result<Read<'a, Ra
     Ok(alone(tree, rest))
 }
 
-pub fn read_declare<'a>(
+fn read_declare<'a>(
     alloc: Global,
     source: &[u8],
     d: u32,
@@ -167,6 +167,23 @@ pub fn read_declare<'a>(
 {
     let decl = read_decl(alloc, source, d, ts)?;
     declare(alloc, decl)
+}
+
+/// A declaration of nesting at most depth.
+pub fn declare_at<'a>(
+    alloc: Global,
+    source: &[u8],
+    depth: u32,
+    ts: &'a [Token],
+) -> Result<Read<'a, RawStmt>, ReadError>
+    requires { depth < 2 ^ 20 }
+    ensures { gives.Gives result (code.declare_at source.now depth ts.now) }
+{
+    if depth == 0 {
+        Err(ReadError::Syntax(ts.len()))
+    } else {
+        read_declare(alloc, source, depth - 1, ts)
+    }
 }
 
 pub fn read_value<'a>(

@@ -28,7 +28,7 @@ use Rattle.raw_tree.specs.Grammar.{name_of, Spells}
 use Rattle.raw_tree.specs.Statements.{Key, Is, IsName, SpellsWords, done, const, volatile, SpellsType, words, SpellsOpening, no_value, a_value}
 use Rattle.raw_tree.specs.Items.{item, SpellsConds, last_cond, comma_behind, more_conds, SpellsArray, in_curly, SpellsValuesOf, no_values, some_values, SpellsGlobal, scalar, array, array_of_values, SpellsRegister, register, SpellsResult, int, void, main, SpellsParam, with_name, without_name, SpellsParams, nothing_between, void_between, params_between, SpellsItem, globals, registers, int_registers, function, proto, SpellsItems, last_item, more_items}
 use Rattle.raw_tree.specs.Reading.{Got, ReaderOf, Reader, got, past, open_round, close_round, open_square, close_square, read_parted, readers}
-use Rattle.raw_tree.specs.ReadingStatements.{after, open_curly, close_curly, is_name, begins_type, read_type, read_opening, read_body, read_stmt}
+use Rattle.raw_tree.specs.ReadingStatements.{after, open_curly, close_curly, is_name, begins_type, read_type, read_opening, read_body, read_piece}
 use Rattle.raw_tree.specs.ReadingItems.{values, values_of, read_array, values_at, read_values_of, read_global, read_globals, read_register, is_int, registers_of, read_registers, param_at, read_param, is_void, read_params, has_name, have_names, all_named, read_function, read_headed, read_typed, begins_round, is_head, begun_item, item_of, read_item, items, items_step, read_items}
 use Rattle.raw_tree.proofs.Parted.{got_same, complete_list}
 use Rattle.raw_tree.proofs.Complete.{starts, Begins, begins, goes_behind, complete_cond}
@@ -343,28 +343,28 @@ module _ (source : List ℕ) (depth : ℕ) where
   reads_item : {n : ℕ} {a : RawItem} {x : Tokens} → SpellsItem source n a x → (r : Tokens) → n ≤ depth → read_item source depth (x ++ r) ≡ got a 0 r
   reads_item (globals e {n = n} {ty = ty} {all = all} {x = x} {y = y} types list he) r fits =
       ap (read_item source depth) (append_assoc x (y ++ e ∷ []) r ∙ ap (λ (w : Tokens). x ++ w) (append_assoc y (e ∷ []) r))
-      ∙ type_item constant (read_stmt source depth) types (y ++ (e ∷ r)) (globals_no_head list e r he)
+      ∙ type_item constant (read_piece source depth) types (y ++ (e ∷ r)) (globals_no_head list e r he)
       ∙ globals_done constant ty all n e (x ++ (y ++ (e ∷ r))) (y ++ (e ∷ r)) r (reads_type types (y ++ (e ∷ r)))
       (complete_list RawGlobal (SpellsGlobal source) (read_global source constant) depth (Stops 13) (λ j a z w spelled small stop. reads_global spelled w small stop) (stops_comma source) list (e ∷ r) fits (mark_stops e m.Semicolon r he (omega arith)) (ends_semicolon source e r he)) he
   reads_item (registers t e {n = n} {all = all} {x = x} ht list he) r fits =
       ap (λ (w : Tokens). read_item source depth (t ∷ w)) (append_assoc x (e ∷ []) r)
-      ∙ begun_registers constant (read_stmt source depth) t (x ++ (e ∷ r)) ht
+      ∙ begun_registers constant (read_piece source depth) t (x ++ (e ∷ r)) ht
       ∙ plain_registers constant t.place (x ++ (e ∷ r)) (registers_begin list (e ∷ r))
       ∙ registers_done constant t.place false all n e (x ++ (e ∷ r)) r (register_list list e r fits he) he
   reads_item (int_registers t u e {n = n} {all = all} {x = x} ht hu list he) r fits =
       ap (λ (w : Tokens). read_item source depth (t ∷ u ∷ w)) (append_assoc x (e ∷ []) r)
-      ∙ begun_registers constant (read_stmt source depth) t (u ∷ (x ++ (e ∷ r))) ht
+      ∙ begun_registers constant (read_piece source depth) t (u ∷ (x ++ (e ∷ r))) ht
       ∙ int_read constant t.place u (x ++ (e ∷ r)) hu
       ∙ registers_done constant t.place true all n e (x ++ (e ∷ r)) r (register_list list e r fits he) he
   reads_item (function o c p l {n = n} {head = head} {at = at} {all = all} {body = code} {x = x} {y = y} {z = z} hhead ho hall hc hp inside hl) r fits =
       ap (read_item source depth) (append_assoc x (o ∷ (y ++ c ∷ p ∷ (z ++ l ∷ []))) r ∙ ap (λ (w : Tokens). x ++ (o ∷ w)) (append_assoc y (c ∷ p ∷ (z ++ l ∷ [])) r ∙ ap (λ (w : Tokens). y ++ (c ∷ p ∷ w)) (append_assoc z (l ∷ []) r)))
-      ∙ reads_head constant (read_stmt source depth) hhead o (y ++ (c ∷ p ∷ (z ++ (l ∷ r)))) ho
-      ∙ headed_function (read_stmt source depth) at head all o c p (y ++ (c ∷ p ∷ (z ++ (l ∷ r)))) (z ++ (l ∷ r)) ho (reads_params true hall c (p ∷ (z ++ (l ∷ r))) hc) hc hp
-      ∙ function_read (read_stmt source depth) at head all code p (z ++ (l ∷ r)) r (params_named hall) hp (whole_body source inside depth l r fits hl)
+      ∙ reads_head constant (read_piece source depth) hhead o (y ++ (c ∷ p ∷ (z ++ (l ∷ r)))) ho
+      ∙ headed_function (read_piece source depth) at head all o c p (y ++ (c ∷ p ∷ (z ++ (l ∷ r)))) (z ++ (l ∷ r)) ho (reads_params true hall c (p ∷ (z ++ (l ∷ r))) hc) hc hp
+      ∙ function_read (read_piece source depth) at head all code p (z ++ (l ∷ r)) r (params_named hall) hp (whole_body source inside depth l r fits hl)
   reads_item (proto o c e {head = head} {at = at} {all = all} {x = x} {y = y} hhead ho hall hc he) r fits =
       ap (read_item source depth) (append_assoc x (o ∷ (y ++ c ∷ e ∷ [])) r ∙ ap (λ (w : Tokens). x ++ (o ∷ w)) (append_assoc y (c ∷ e ∷ []) r))
-      ∙ reads_head constant (read_stmt source depth) hhead o (y ++ (c ∷ e ∷ r)) ho
-      ∙ headed_proto (read_stmt source depth) at head all o c e (y ++ (c ∷ e ∷ r)) r ho (reads_params false hall c (e ∷ r) hc) hc he
+      ∙ reads_head constant (read_piece source depth) hhead o (y ++ (c ∷ e ∷ r)) ho
+      ∙ headed_proto (read_piece source depth) at head all o c e (y ++ (c ∷ e ∷ r)) r ho (reads_params false hall c (e ∷ r) hc) hc he
 
   abbrev Nonempty : Tokens → Type 0
   Nonempty x = (t : Token) × (y : Tokens) × (x ≡ t ∷ y)

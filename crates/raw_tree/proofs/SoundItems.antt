@@ -25,11 +25,11 @@ use Rattle.raw_tree.specs.Grammar.{name_of, Spells}
 use Rattle.raw_tree.specs.Statements.{Key, Is, IsName, SpellsType}
 use Rattle.raw_tree.specs.Items.{item, SpellsConds, last_cond, comma_behind, more_conds, SpellsArray, in_curly, SpellsValuesOf, no_values, some_values, SpellsGlobal, scalar, array, array_of_values, SpellsRegister, register, SpellsResult, int, void, main, SpellsParam, with_name, without_name, SpellsParams, nothing_between, void_between, params_between, SpellsItem, globals, registers, int_registers, function, proto, SpellsItems, last_item, more_items}
 use Rattle.raw_tree.specs.Reading.{Got, GotExpr, Reader, past, comma, open_round, close_round, open_square, close_square, read_parted, readers}
-use Rattle.raw_tree.specs.ReadingStatements.{semicolon, equal, open_curly, close_curly, is_name, read_name, read_type, read_opening, read_body, read_stmt}
+use Rattle.raw_tree.specs.ReadingStatements.{semicolon, equal, open_curly, close_curly, is_name, read_name, read_type, read_opening, read_body, read_stmt, read_piece}
 use Rattle.raw_tree.specs.ReadingItems.{values, values_on, values_more, values_step, values_of, read_array, values_at, read_values_of, array_behind, global_behind, read_global, read_globals, read_register, is_int, registers_of, registers_at, param_at, read_param, is_void, params_at, read_params, have_names, all_named, proto_at, read_headed, read_typed, read_main, is_head, begun_item, read_item, items, items_step, read_items}
 use Rattle.raw_tree.proofs.Parted.{is_comma, past_some, sound_list}
 use Rattle.raw_tree.proofs.Sound.{is_open_round, is_close_round, is_open_square, is_close_square, if_some, chosen_true, sound_constant}
-use Rattle.raw_tree.proofs.SoundStatements.{sure_semicolon, sure_equal, sure_open_curly, sure_close_curly, sure_name, after_some, sound_name, sound_type, sound_opening, sound_stmt, whole_body, weave_end}
+use Rattle.raw_tree.proofs.SoundStatements.{sure_semicolon, sure_equal, sure_open_curly, sure_close_curly, sure_name, after_some, sound_name, sound_type, sound_opening, sound_stmt, sound_piece, whole_body, weave_end}
 
 sure_int : (q : TokenKind) → is_int q ≡ true → q ≡ kind.Keyword k.Int
 sure_int (kind.Keyword k.Int) h = refl
@@ -314,13 +314,13 @@ module _ (source : List ℕ) (depth : ℕ) where
   SoundHeaded at head ts g = (n : ℕ) × (y : Tokens) × (ts ≡ y ++ g.rest) × ((x : Tokens) → SpellsResult source head at x → SpellsItem source n g.tree (x ++ y)) × (n ≤ depth)
 
   sound_proto_at : (at : Place) (head : RawResult) (all : RawParams) (ts a y b d : Tokens) (o c : Token) (g : Got RawItem) → ts ≡ o ∷ a → Is o m.OpenRound → a ≡ y ++ b → SpellsParams source false all y → b ≡ c ∷ d → Is c m.CloseRound →
-      (answer : Option Tokens) → past semicolon d ≡ answer → proto_at (read_stmt source depth) at head all d answer ≡ Some g → SoundHeaded at head ts g
+      (answer : Option Tokens) → past semicolon d ≡ answer → proto_at (read_piece source depth) at head all d answer ≡ Some g → SoundHeaded at head ts g
   sound_proto_at at head all ts a y b d o c g first ho next spelled then_close hc None is found =
       let choice = if_some (all_named all) _ g found in
       let one = after_some (past open_curly d) _ g choice.1 in
       let p = past_some open_curly d one.0 one.1 in
-      let two = after_some (read_body (read_stmt source depth) one.0) _ g one.2 in
-      let code = whole_body source depth (read_stmt source depth) (sound_stmt source depth) one.0 two.0 two.1 in
+      let two = after_some (read_body (read_piece source depth) one.0) _ g one.2 in
+      let code = whole_body source depth (read_piece source depth) (sound_piece source depth (read_stmt source depth) (sound_stmt source depth)) one.0 two.0 two.1 in
       subst (SoundHeaded at head ts) (same_Some _ g two.2) (
         code.0,
         o ∷ (y ++ c ∷ p.0 ∷ (code.1 ++ code.2 ∷ [])),
@@ -333,7 +333,7 @@ module _ (source : List ℕ) (depth : ℕ) where
       subst (SoundHeaded at head ts) (same_Some _ g found)
       (0, o ∷ (y ++ c ∷ e.0 ∷ []), weave_proto ts a y b d us o c e.0 first next then_close e.1, λ x h. proto o c e.0 h ho spelled hc (sure_semicolon e.0.kind e.2), omega arith)
 
-  sound_headed : (at : Place) (head : RawResult) (ts : Tokens) (g : Got RawItem) → read_headed source (read_stmt source depth) at head ts ≡ Some g → SoundHeaded at head ts g
+  sound_headed : (at : Place) (head : RawResult) (ts : Tokens) (g : Got RawItem) → read_headed source (read_piece source depth) at head ts ≡ Some g → SoundHeaded at head ts g
   sound_headed at head ts g found =
       let one = after_some (past open_round ts) _ g found in
       let o = past_some open_round ts one.0 one.1 in
@@ -343,14 +343,14 @@ module _ (source : List ℕ) (depth : ℕ) where
       let c = past_some close_round two.0.rest three.0 three.1 in
       sound_proto_at at head two.0.tree ts one.0 all.0 two.0.rest three.0 o.0 c.0 g o.1 (is_open_round o.0.kind o.2) all.1 all.2 c.1 (is_close_round c.0.kind c.2) (past semicolon three.0) refl three.2
 
-  sound_typed : (t : Token) (made : RawName → RawResult) → ((u : Token) → IsName u → SpellsResult source (made (name_of source u)) t.place (t ∷ u ∷ [])) → (ts : Tokens) (g : Got RawItem) → read_typed source (read_stmt source depth) t.place made ts ≡ Some g → Behind t ts g
+  sound_typed : (t : Token) (made : RawName → RawResult) → ((u : Token) → IsName u → SpellsResult source (made (name_of source u)) t.place (t ∷ u ∷ [])) → (ts : Tokens) (g : Got RawItem) → read_typed source (read_piece source depth) t.place made ts ≡ Some g → Behind t ts g
   sound_typed t made spelled ts g found =
       let one = after_some (read_name source ts) _ g found in
       let name = sound_name source ts one.0 one.1 in
-      let rest = sound_headed t.place (made (name_of source name.0)) one.0.rest g (subst (λ (n : RawName). read_headed source (read_stmt source depth) t.place (made n) one.0.rest ≡ Some g) name.3 one.2) in
+      let rest = sound_headed t.place (made (name_of source name.0)) one.0.rest g (subst (λ (n : RawName). read_headed source (read_piece source depth) t.place (made n) one.0.rest ≡ Some g) name.3 one.2) in
       (rest.0, name.0 ∷ rest.1, name.1 ∙ ap (λ (w : Tokens). name.0 ∷ w) rest.2, rest.3 (t ∷ name.0 ∷ []) (spelled name.0 name.2), rest.4)
 
-  sound_main : (t : Token) (ts : Tokens) (g : Got RawItem) → IsName t → read_main source (read_stmt source depth) t ts ≡ Some g → Behind t ts g
+  sound_main : (t : Token) (ts : Tokens) (g : Got RawItem) → IsName t → read_main source (read_piece source depth) t ts ≡ Some g → Behind t ts g
   sound_main t ts g ht found =
       let choice = if_some (bytes_eq (bytes_of source t) (codes "main")) _ g found in
       let rest = sound_headed t.place (result.Main (name_of source t)) ts g choice.1 in
@@ -358,7 +358,7 @@ module _ (source : List ℕ) (depth : ℕ) where
 
   -- ---- items
 
-  sound_begun : (t : Token) (ts : Tokens) (g : Got RawItem) (w : TokenKind) → t.kind ≡ w → begun_item source constant (read_stmt source depth) t w ts ≡ Some g → SoundItem (t ∷ ts) g
+  sound_begun : (t : Token) (ts : Tokens) (g : Got RawItem) (w : TokenKind) → t.kind ≡ w → begun_item source constant (read_piece source depth) t w ts ≡ Some g → SoundItem (t ∷ ts) g
   sound_begun t ts g (kind.Keyword k.PsBaseReg) is found = item_whole t ts g (sound_registers t ts g is (past is_int ts) refl found)
   sound_begun t ts g (kind.Keyword k.Void) is found = item_whole t ts g (sound_typed t (λ name. result.Void name) (λ u h. void t u is h) ts g found)
   sound_begun t ts g (kind.Keyword k.Int) is found =

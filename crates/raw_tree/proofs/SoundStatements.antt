@@ -20,9 +20,9 @@ use Rattle.raw_tree.specs.declared.tree.RawStmtKind.{RawStmtKind}
 use Rattle.raw_tree.specs.declared.tree.RawStmtKind.TheVariants as s
 use Rattle.raw_tree.specs.Level.{Tokens, Level, Whole}
 use Rattle.raw_tree.specs.Grammar.{name_of, Spells}
-use Rattle.raw_tree.specs.Statements.{Key, Is, text_of, statement, SpellsWords, done, const, volatile, SpellsType, words, SpellsOpening, no_value, a_value, SpellsMaybe, nothing, just, SpellsLocal, local, SpellsDecl, decl, SpellsFirst, first_decl, first_value, first_nothing, SpellsBehind, end, values, SpellsStmt, empty, value, declare, block, if_alone, if_else, while, do_while, for, break, continue, return, spawn, ps, psm, print, SpellsBody, no_more, one_more}
+use Rattle.raw_tree.specs.Statements.{Key, Is, text_of, statement, SpellsWords, done, const, volatile, SpellsType, words, SpellsOpening, no_value, a_value, SpellsMaybe, nothing, just, SpellsLocal, local, SpellsDecl, decl, SpellsFirst, first_decl, first_value, first_nothing, SpellsBehind, end, values, SpellsStmt, empty, value, block, if_alone, if_else, while, do_while, for, break, continue, return, spawn, ps, psm, print, SpellsBody, no_more, one_declared, one_more}
 use Rattle.raw_tree.specs.Reading.{Got, GotExpr, ReaderOf, Reader, got, past, comma, open_round, close_round, read_parted, step_place, expression}
-use Rattle.raw_tree.specs.ReadingStatements.{after, semicolon, equal, open_curly, close_curly, is_else, is_while, is_name, is_text, begins_type, read_name, read_text, read_word, read_words, read_type, opening_value, opening_at, read_opening, read_local, read_decl, read_round, read_maybe, first_value as first_with, read_first, behind_at, read_behind, body, body_step, read_body, with_else, else_part, read_if, read_while, read_do, read_for, read_return, read_spawn, read_ps, read_psm, read_print, read_block, read_word_alone, read_declare, read_value, begun_stmt, stmt_of, read_stmt}
+use Rattle.raw_tree.specs.ReadingStatements.{after, semicolon, equal, open_curly, close_curly, is_else, is_while, is_name, is_text, begins_type, read_name, read_text, read_word, read_words, read_type, opening_value, opening_at, read_opening, read_local, read_decl, read_round, read_maybe, first_value as first_with, read_first, behind_at, read_behind, body, body_step, read_body, with_else, else_part, read_if, read_while, read_do, read_for, read_return, read_spawn, read_ps, read_psm, read_print, read_block, read_word_alone, read_value, begun_stmt, stmt_of, declare_at, piece_of, read_stmt}
 use Rattle.raw_tree.proofs.Parted.{is_comma, past_some, sound_list}
 use Rattle.raw_tree.proofs.CompleteStatements.{NoElse}
 use Rattle.raw_tree.proofs.Sound.{is_open_round, is_close_round, if_some, chosen_true, Sound, sound, sound_listed, sound_place}
@@ -271,7 +271,6 @@ module _ (source : List ℕ) where
   stmt_positive : {p : Bool} {n : ℕ} {b : RawStmt} {x : Tokens} → SpellsStmt source p n b x → 1 ≤ n
   stmt_positive (empty e h) = omega arith
   stmt_positive (value e spelled h) = omega arith
-  stmt_positive (declare h) = omega arith
   stmt_positive (block o c h inside d) = omega arith
   stmt_positive (if_alone t o c ht ho test hc branch) = omega arith
   stmt_positive (if_else t o c u ht ho test hc branch hu other) = omega arith
@@ -315,46 +314,68 @@ module _ (source : List ℕ) where
   abbrev IsSoundStmt : ℕ → ReaderOf RawStmt → Type 0
   IsSoundStmt depth inner = (ts : Tokens) (g : Got RawStmt) → inner ts ≡ Some g → SoundStmt depth ts g
 
-  -- statements, and the `}` behind them
+  -- what was read of these tokens may stand before what else stands in a body
+  abbrev pub SoundPiece : ℕ → Tokens → Got RawStmt → Type 0
+  SoundPiece depth ts g = (n : ℕ) × (x : Tokens) × (ts ≡ x ++ g.rest) × ((j : ℕ) (all : List RawStmt) (y : Tokens) → SpellsBody source j all y → SpellsBody source (max n j) (g.tree ∷ all) (x ++ y)) × (n ≤ depth)
+
+  abbrev IsSoundPiece : ℕ → ReaderOf RawStmt → Type 0
+  IsSoundPiece depth piece = (ts : Tokens) (g : Got RawStmt) → piece ts ≡ Some g → SoundPiece depth ts g
+
+  sound_declared : (depth : ℕ) (ts : Tokens) (g : Got RawStmt) → declare_at source depth ts ≡ Some g → SoundPiece depth ts g
+  sound_declared zero ts g found = absurd (cc)
+  sound_declared (suc d) ts g found =
+      let one = after_some (read_decl source (expression source d) ts) _ g found in
+      let dec = sound_decl d ts one.0 one.1 in
+      subst (SoundPiece (suc d) ts) (same_Some _ g one.2) (suc one.0.nest, dec.0, dec.1, λ j all y others. one_declared dec.2 others, omega (arith, dec.3))
+
+  pub sound_piece : (depth : ℕ) (inner : ReaderOf RawStmt) → IsSoundStmt depth inner → IsSoundPiece depth (piece_of source depth inner)
+  sound_piece depth inner each [] g found = absurd (cc)
+  sound_piece depth inner each (t ∷ ts) g found =
+      ⊎_elim
+      (λ (is, then_it). sound_declared depth (t ∷ ts) g then_it)
+      (λ (other, then_it). let one = each (t ∷ ts) g then_it in (one.1, one.2, one.3, λ j all y others. one_more one.4 others, one.5))
+      (chosen_true (begins_type t.kind) _ _ (Some g) found)
+
+  -- declarations and statements, and the `}` behind them
   abbrev pub SoundBody : ℕ → List RawStmt → Tokens → Got (List RawStmt) → Type 0
   SoundBody depth front ts g = (all : List RawStmt) × (n : ℕ) × (x : Tokens) × (l : Token) × (ts ≡ x ++ (l ∷ g.rest)) × SpellsBody source n all x × Is l m.CloseCurly × (g.tree ≡ front ++ all) × (n ≤ depth)
 
   body_closes : (depth : ℕ) (front : List RawStmt) (t : Token) (ts : Tokens) (g : Got (List RawStmt)) → close_curly t.kind ≡ true → got front 0 ts ≡ Some g → SoundBody depth front (t ∷ ts) g
   body_closes depth front t ts g is found = subst (SoundBody depth front (t ∷ ts)) (same_Some _ g found) ([], 0, [], t, refl, no_more, sure_close_curly t.kind is, sym (append-nil front), omega arith)
 
-  body_goes : (depth : ℕ) (inner : ReaderOf RawStmt) → IsSoundStmt depth inner → (more : List RawStmt → Tokens → Option (Got (List RawStmt))) → ((f : List RawStmt) (us : Tokens) (g : Got (List RawStmt)) → more f us ≡ Some g → SoundBody depth f us g) →
-      (front : List RawStmt) (ts : Tokens) (g : Got (List RawStmt)) (answer : Option (Got RawStmt)) → inner ts ≡ answer → body_step more front answer ≡ Some g → SoundBody depth front ts g
-  body_goes depth inner each more rest front ts g None is found = absurd (cc)
-  body_goes depth inner each more rest front ts g (Some b) is found =
+  body_goes : (depth : ℕ) (piece : ReaderOf RawStmt) → IsSoundPiece depth piece → (more : List RawStmt → Tokens → Option (Got (List RawStmt))) → ((f : List RawStmt) (us : Tokens) (g : Got (List RawStmt)) → more f us ≡ Some g → SoundBody depth f us g) →
+      (front : List RawStmt) (ts : Tokens) (g : Got (List RawStmt)) (answer : Option (Got RawStmt)) → piece ts ≡ answer → body_step more front answer ≡ Some g → SoundBody depth front ts g
+  body_goes depth piece each more rest front ts g None is found = absurd (cc)
+  body_goes depth piece each more rest front ts g (Some b) is found =
       let one = each ts b is in
       let others = rest (front ++ b.tree ∷ []) b.rest g found in (
         b.tree ∷ others.0,
-        max one.1 others.1,
-        one.2 ++ others.2,
+        max one.0 others.1,
+        one.1 ++ others.2,
         others.3,
-        weave_body ts ts one.2 b.rest others.2 g.rest others.3 one.3 others.4,
-        one_more one.4 others.5,
+        weave_body ts ts one.1 b.rest others.2 g.rest others.3 one.2 others.4,
+        one.3 others.1 others.0 others.2 others.5,
         others.6,
         others.7 ∙ append_assoc front (b.tree ∷ []) others.0,
-        omega (arith, one.5, others.8),
+        omega (arith, one.4, others.8),
       )
 
-  sound_body : (depth : ℕ) (inner : ReaderOf RawStmt) → IsSoundStmt depth inner → (turns : ℕ) (front : List RawStmt) (ts : Tokens) (g : Got (List RawStmt)) → body inner turns front ts ≡ Some g → SoundBody depth front ts g
+  sound_body : (depth : ℕ) (piece : ReaderOf RawStmt) → IsSoundPiece depth piece → (turns : ℕ) (front : List RawStmt) (ts : Tokens) (g : Got (List RawStmt)) → body piece turns front ts ≡ Some g → SoundBody depth front ts g
   unfolding body
-  sound_body depth inner each turns front [] g found = absurd (cc)
-  sound_body depth inner each zero front (t ∷ ts) g found =
+  sound_body depth piece each turns front [] g found = absurd (cc)
+  sound_body depth piece each zero front (t ∷ ts) g found =
       let choice = if_some (close_curly t.kind) (got front 0 ts) g found in
       body_closes depth front t ts g choice.0 choice.1
-  sound_body depth inner each (suc f) front (t ∷ ts) g found =
+  sound_body depth piece each (suc f) front (t ∷ ts) g found =
       ⊎_elim
       (λ (is, then_it). body_closes depth front t ts g is then_it)
-      (λ (other, then_it). body_goes depth inner each (body inner f) (λ all us h more. sound_body depth inner each f all us h more) front (t ∷ ts) g (inner (t ∷ ts)) refl then_it)
+      (λ (other, then_it). body_goes depth piece each (body piece f) (λ all us h more. sound_body depth piece each f all us h more) front (t ∷ ts) g (piece (t ∷ ts)) refl then_it)
       (chosen_true (close_curly t.kind) _ _ (Some g) found)
 
-  pub whole_body : (depth : ℕ) (inner : ReaderOf RawStmt) → IsSoundStmt depth inner → (ts : Tokens) (g : Got (List RawStmt)) → read_body inner ts ≡ Some g →
+  pub whole_body : (depth : ℕ) (piece : ReaderOf RawStmt) → IsSoundPiece depth piece → (ts : Tokens) (g : Got (List RawStmt)) → read_body piece ts ≡ Some g →
       (n : ℕ) × (x : Tokens) × (l : Token) × (ts ≡ x ++ (l ∷ g.rest)) × SpellsBody source n g.tree x × Is l m.CloseCurly × (n ≤ depth)
-  whole_body depth inner each ts g found =
-      let all = sound_body depth inner each (length ts) [] ts g found in
+  whole_body depth piece each ts g found =
+      let all = sound_body depth piece each (length ts) [] ts g found in
       (all.1, all.2, all.3, all.4, subst (λ (b : List RawStmt). SpellsBody source all.1 b all.2) (sym all.7) all.5, all.6, all.8)
 
   -- behind the first token
@@ -362,10 +383,10 @@ module _ (source : List ℕ) where
   Behind d t ts g = (p : Bool) × (n : ℕ) × (y : Tokens) × (ts ≡ y ++ g.rest) × SpellsStmt source p n g.tree (t ∷ y) × (n ≤ suc d) × (p ≡ true → NoElse g.rest)
 
   module _ (d : ℕ) (inner : ReaderOf RawStmt) (each : IsSoundStmt d inner) (t : Token) (ts : Tokens) (g : Got RawStmt) where
-    sound_block : Is t m.OpenCurly → read_block inner t ts ≡ Some g → Behind d t ts g
+    sound_block : Is t m.OpenCurly → read_block (piece_of source d inner) t ts ≡ Some g → Behind d t ts g
     sound_block h found =
-        let one = after_some (read_body inner ts) _ g found in
-        let all = whole_body d inner each ts one.0 one.1 in
+        let one = after_some (read_body (piece_of source d inner) ts) _ g found in
+        let all = whole_body d (piece_of source d inner) (sound_piece d inner each) ts one.0 one.1 in
         subst (Behind d t ts) (same_Some _ g one.2) (false, suc all.0, all.1 ++ all.2 ∷ [], weave_end ts all.1 (all.2 ∷ one.0.rest) one.0.rest all.2 all.3 refl, block t all.2 h all.4 all.5, omega (arith, all.6), λ bad. absurd (cc))
 
     sound_with_else : (a : GotExpr) (b : Got RawStmt) (us : Tokens) (u : Token) → Key t k.If → SoundRound d ts a → SoundStmt d a.rest b → b.rest ≡ u ∷ us → is_else u.kind ≡ true → (answer : Option (Got RawStmt)) → inner us ≡ answer →
@@ -468,7 +489,7 @@ module _ (source : List ℕ) where
         subst (Behind d t ts) (same_Some _ g two.2)
         (false, suc one.0.nest, a.0 ++ e.0 ∷ [], weave_end ts a.0 one.0.rest two.0 e.0 a.1 e.1, return t e.0 ht a.2 (sure_semicolon e.0.kind e.2), omega (arith, a.3), λ bad. absurd (cc))
 
-    sound_spawn : Key t k.Spawn → read_spawn (expression source d) inner t ts ≡ Some g → Behind d t ts g
+    sound_spawn : Key t k.Spawn → read_spawn (expression source d) (piece_of source d inner) t ts ≡ Some g → Behind d t ts g
     sound_spawn ht found =
         let one = after_some (past open_round ts) _ g found in
         let o = past_some open_round ts one.0 one.1 in
@@ -482,8 +503,8 @@ module _ (source : List ℕ) where
         let c = past_some close_round four.0.rest five.0 five.1 in
         let six = after_some (past open_curly five.0) _ g five.2 in
         let p = past_some open_curly five.0 six.0 six.1 in
-        let seven = after_some (read_body inner six.0) _ g six.2 in
-        let all = whole_body d inner each six.0 seven.0 seven.1 in
+        let seven = after_some (read_body (piece_of source d inner) six.0) _ g six.2 in
+        let all = whole_body d (piece_of source d inner) (sound_piece d inner each) six.0 seven.0 seven.1 in
         subst (Behind d t ts) (same_Some _ g seven.2) (
           false,
           suc (max two.0.nest (max four.0.nest all.0)),
@@ -572,12 +593,6 @@ module _ (source : List ℕ) where
   stmt_whole : (d : ℕ) (t : Token) (ts : Tokens) (g : Got RawStmt) → Behind d t ts g → SoundStmt (suc d) (t ∷ ts) g
   stmt_whole d t ts g (p, n, y, split, spelled, fits, closed) = (p, n, t ∷ y, ap (λ (w : Tokens). t ∷ w) split, spelled, fits, closed)
 
-  sound_declare : (d : ℕ) (ts : Tokens) (g : Got RawStmt) → read_declare source (expression source d) ts ≡ Some g → SoundStmt (suc d) ts g
-  sound_declare d ts g found =
-      let one = after_some (read_decl source (expression source d) ts) _ g found in
-      let dec = sound_decl d ts one.0 one.1 in
-      subst (SoundStmt (suc d) ts) (same_Some _ g one.2) (false, suc one.0.nest, dec.0, dec.1, declare dec.2, omega (arith, dec.3), λ bad. absurd (cc))
-
   sound_value : (d : ℕ) (ts : Tokens) (g : Got RawStmt) → read_value (expression source d) ts ≡ Some g → SoundStmt (suc d) ts g
   sound_value d ts g found =
       let one = after_some (expression source d ts) _ g found in
@@ -587,7 +602,7 @@ module _ (source : List ℕ) where
       subst (SoundStmt (suc d) ts) (same_Some _ g two.2)
       (false, suc one.0.nest, a.0 ++ e.0 ∷ [], weave_end ts a.0 one.0.rest two.0 e.0 a.1 e.1, value e.0 a.2 (sure_semicolon e.0.kind e.2), omega (arith, a.3), λ bad. absurd (cc))
 
-  sound_begun : (d : ℕ) (inner : ReaderOf RawStmt) → IsSoundStmt d inner → (t : Token) (ts : Tokens) (g : Got RawStmt) (w : TokenKind) → t.kind ≡ w → begun_stmt source (expression source d) (expression source (pred d)) inner t w ts ≡ Some g → SoundStmt (suc d) (t ∷ ts) g
+  sound_begun : (d : ℕ) (inner : ReaderOf RawStmt) → IsSoundStmt d inner → (t : Token) (ts : Tokens) (g : Got RawStmt) (w : TokenKind) → t.kind ≡ w → begun_stmt source (expression source d) (expression source (pred d)) inner (piece_of source d inner) t w ts ≡ Some g → SoundStmt (suc d) (t ∷ ts) g
   sound_begun d inner each t ts g (kind.Mark m.Semicolon) is found = subst (SoundStmt (suc d) (t ∷ ts)) (same_Some _ g found) (false, 1, t ∷ [], refl, empty t is, omega arith, λ bad. absurd (cc))
   sound_begun d inner each t ts g (kind.Mark m.OpenCurly) is found = stmt_whole d t ts g (sound_block d inner each t ts g is found)
   sound_begun d inner each t ts g (kind.Keyword k.If) is found = stmt_whole d t ts g (sound_if d inner each t ts g is found)
@@ -601,12 +616,12 @@ module _ (source : List ℕ) where
   sound_begun d inner each t ts g (kind.Keyword k.Ps) is found = stmt_whole d t ts g (sound_ps d inner each t ts g is found)
   sound_begun d inner each t ts g (kind.Keyword k.Psm) is found = stmt_whole d t ts g (sound_psm d inner each t ts g is found)
   sound_begun d inner each t ts g (kind.Keyword k.Printf) is found = stmt_whole d t ts g (sound_print d inner each t ts g is found)
-  sound_begun d inner each t ts g (kind.Keyword k.Int) is found = sound_declare d (t ∷ ts) g found
-  sound_begun d inner each t ts g (kind.Keyword k.Const) is found = sound_declare d (t ∷ ts) g found
-  sound_begun d inner each t ts g (kind.Keyword k.Volatile) is found = sound_declare d (t ∷ ts) g found
+  sound_begun d inner each t ts g (kind.Keyword k.Int) is found = absurd (cc)
+  sound_begun d inner each t ts g (kind.Keyword k.Const) is found = absurd (cc)
+  sound_begun d inner each t ts g (kind.Keyword k.Volatile) is found = absurd (cc)
   sound_begun d inner each t ts g _ is found = sound_value d (t ∷ ts) g found
 
-  sound_of : (d : ℕ) (inner : ReaderOf RawStmt) → IsSoundStmt d inner → IsSoundStmt (suc d) (stmt_of source (expression source d) (expression source (pred d)) inner)
+  sound_of : (d : ℕ) (inner : ReaderOf RawStmt) → IsSoundStmt d inner → IsSoundStmt (suc d) (stmt_of source (expression source d) (expression source (pred d)) inner (piece_of source d inner))
   sound_of d inner each [] g found = absurd (cc)
   sound_of d inner each (t ∷ ts) g found = sound_begun d inner each t ts g t.kind refl found
 

@@ -23,7 +23,7 @@ use Rattle.raw_tree.specs.Level.{Tokens, bytes_of}
 use Rattle.raw_tree.specs.Grammar.{name_of}
 use Rattle.raw_tree.specs.Items.{item}
 use Rattle.raw_tree.specs.Reading.{Got, ReaderOf, Reader, got, past, comma, open_round, close_round, open_square, close_square, read_parted, readers}
-use Rattle.raw_tree.specs.ReadingStatements.{after, semicolon, equal, open_curly, close_curly, is_name, read_name, read_type, read_opening, read_body, read_stmt}
+use Rattle.raw_tree.specs.ReadingStatements.{after, semicolon, equal, open_curly, close_curly, is_name, read_name, read_type, read_opening, read_body, read_piece}
 
 -- ---- globals and registers; cond reads a constant expression
 
@@ -136,25 +136,25 @@ all_named (params.Some all) = have_names all
 all_named _ = true
 
 abbrev pub read_function : ReaderOf RawStmt → Place → RawResult → RawParams → ReaderOf RawItem
-read_function stmt at head all ts =
-    if all_named all then after (past open_curly ts) (λ us. after (read_body stmt us) (λ c. got (item at (i.Function head all c.tree)) 0 c.rest)) else None
+read_function piece at head all ts =
+    if all_named all then after (past open_curly ts) (λ us. after (read_body piece us) (λ c. got (item at (i.Function head all c.tree)) 0 c.rest)) else None
 
 abbrev pub proto_at : ReaderOf RawStmt → Place → RawResult → RawParams → Tokens → Option Tokens → Option (Got RawItem)
-proto_at stmt at head all ts None = read_function stmt at head all ts
-proto_at stmt at head all ts (Some us) = got (item at (i.Proto head all)) 0 us
+proto_at piece at head all ts None = read_function piece at head all ts
+proto_at piece at head all ts (Some us) = got (item at (i.Proto head all)) 0 us
 
 -- behind a head's name
 abbrev pub read_headed : (source : List ℕ) → ReaderOf RawStmt → Place → RawResult → ReaderOf RawItem
-read_headed source stmt at head ts =
-    after (past open_round ts) (λ us. after (read_params source us) (λ all. after (past close_round all.rest) (λ vs. proto_at stmt at head all.tree vs (past semicolon vs))))
+read_headed source piece at head ts =
+    after (past open_round ts) (λ us. after (read_params source us) (λ all. after (past close_round all.rest) (λ vs. proto_at piece at head all.tree vs (past semicolon vs))))
 
 -- `int` or `void`, then a name
 abbrev pub read_typed : (source : List ℕ) → ReaderOf RawStmt → Place → (RawName → RawResult) → ReaderOf RawItem
-read_typed source stmt at made ts = after (read_name source ts) (λ name. read_headed source stmt at (made name.tree) name.rest)
+read_typed source piece at made ts = after (read_name source ts) (λ name. read_headed source piece at (made name.tree) name.rest)
 
 abbrev pub read_main : (source : List ℕ) → ReaderOf RawStmt → Token → ReaderOf RawItem
-read_main source stmt t ts =
-    if bytes_eq (bytes_of source t) (codes "main") then read_headed source stmt t.place (result.Main (name_of source t)) ts else None
+read_main source piece t ts =
+    if bytes_eq (bytes_of source t) (codes "main") then read_headed source piece t.place (result.Main (name_of source t)) ts else None
 
 -- the second token behind an `int` is a `(`
 abbrev pub begins_round : Tokens → Bool
@@ -166,20 +166,20 @@ is_head [] = false
 is_head (u ∷ ts) = begins_round ts
 
 abbrev pub begun_item : (source : List ℕ) → Reader → ReaderOf RawStmt → Token → TokenKind → ReaderOf RawItem
-begun_item source cond stmt t (kind.Keyword k.PsBaseReg) ts = read_registers source cond t.place ts
-begun_item source cond stmt t (kind.Keyword k.Void) ts = read_typed source stmt t.place (λ name. result.Void name) ts
-begun_item source cond stmt t (kind.Keyword k.Int) ts = if is_head ts then read_typed source stmt t.place (λ name. result.Int name) ts else read_globals source cond (t ∷ ts)
-begun_item source cond stmt t (kind.Keyword k.Const) ts = read_globals source cond (t ∷ ts)
-begun_item source cond stmt t (kind.Keyword k.Volatile) ts = read_globals source cond (t ∷ ts)
-begun_item source cond stmt t kind.Name ts = read_main source stmt t ts
-begun_item source cond stmt t _ ts = None
+begun_item source cond piece t (kind.Keyword k.PsBaseReg) ts = read_registers source cond t.place ts
+begun_item source cond piece t (kind.Keyword k.Void) ts = read_typed source piece t.place (λ name. result.Void name) ts
+begun_item source cond piece t (kind.Keyword k.Int) ts = if is_head ts then read_typed source piece t.place (λ name. result.Int name) ts else read_globals source cond (t ∷ ts)
+begun_item source cond piece t (kind.Keyword k.Const) ts = read_globals source cond (t ∷ ts)
+begun_item source cond piece t (kind.Keyword k.Volatile) ts = read_globals source cond (t ∷ ts)
+begun_item source cond piece t kind.Name ts = read_main source piece t ts
+begun_item source cond piece t _ ts = None
 
 abbrev pub item_of : (source : List ℕ) → Reader → ReaderOf RawStmt → ReaderOf RawItem
-item_of source cond stmt [] = None
-item_of source cond stmt (t ∷ ts) = begun_item source cond stmt t t.kind ts
+item_of source cond piece [] = None
+item_of source cond piece (t ∷ ts) = begun_item source cond piece t t.kind ts
 
 abbrev pub read_item : (source : List ℕ) (depth : ℕ) → ReaderOf RawItem
-read_item source depth ts = item_of source (readers source depth).of_cond (read_stmt source depth) ts
+read_item source depth ts = item_of source (readers source depth).of_cond (read_piece source depth) ts
 
 abbrev pub items_step : (List RawItem → Tokens → Option (Got (List RawItem))) → List RawItem → Option (Got RawItem) → Option (Got (List RawItem))
 items_step more done None = None

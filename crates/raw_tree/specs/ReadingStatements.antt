@@ -143,18 +143,18 @@ behind_at whole ts (Some us) = read_parted whole us
 abbrev pub read_behind : Reader → ReaderOf (List RawExpr)
 read_behind whole ts = behind_at whole ts (past comma ts)
 
--- statements up to and with a `}`, behind those that are done
+-- declarations and statements up to and with a `}`, behind those that are done
 abbrev pub body_step : (List RawStmt → Tokens → Option (Got (List RawStmt))) → List RawStmt → Option (Got RawStmt) → Option (Got (List RawStmt))
 body_step more done None = None
 body_step more done (Some g) = more (done ++ g.tree ∷ []) g.rest
 
 unfoldable pub body : ReaderOf RawStmt → (turns : ℕ) → List RawStmt → Tokens → Option (Got (List RawStmt))
-body inner turns done [] = None
-body inner zero done (t ∷ ts) = if close_curly t.kind then got done 0 ts else None
-body inner (suc turns) done (t ∷ ts) = if close_curly t.kind then got done 0 ts else body_step (body inner turns) done (inner (t ∷ ts))
+body piece turns done [] = None
+body piece zero done (t ∷ ts) = if close_curly t.kind then got done 0 ts else None
+body piece (suc turns) done (t ∷ ts) = if close_curly t.kind then got done 0 ts else body_step (body piece turns) done (piece (t ∷ ts))
 
 abbrev pub read_body : ReaderOf RawStmt → ReaderOf (List RawStmt)
-read_body inner ts = body inner (length ts) [] ts
+read_body piece ts = body piece (length ts) [] ts
 
 -- ---- statements, behind their first token
 
@@ -189,9 +189,9 @@ abbrev pub read_return : Reader → Token → ReaderOf RawStmt
 read_return whole t ts = after (read_maybe semicolon whole ts) (λ a. after (past semicolon a.rest) (λ us. got (statement t.place (s.Return a.tree)) 0 us))
 
 abbrev pub read_spawn : Reader → ReaderOf RawStmt → Token → ReaderOf RawStmt
-read_spawn whole inner t ts =
+read_spawn whole piece t ts =
     after (past open_round ts) (λ us. after (whole us) (λ a. after (past comma a.rest) (λ vs. after (whole vs) (λ b. after (past close_round b.rest) (λ ws.
-    after (past open_curly ws) (λ zs. after (read_body inner zs) (λ c.
+    after (past open_curly ws) (λ zs. after (read_body piece zs) (λ c.
     got (statement t.place (s.Spawn a.tree b.tree c.tree)) 0 c.rest)))))))
 
 abbrev pub read_ps : (source : List ℕ) → Token → ReaderOf RawStmt
@@ -210,7 +210,7 @@ read_print source whole t ts =
     after (past semicolon ws) (λ zs. got (statement t.place (s.Print a.tree b.tree)) 0 zs)))))
 
 abbrev pub read_block : ReaderOf RawStmt → Token → ReaderOf RawStmt
-read_block inner t ts = after (read_body inner ts) (λ c. got (statement t.place (s.Block c.tree)) 0 c.rest)
+read_block piece t ts = after (read_body piece ts) (λ c. got (statement t.place (s.Block c.tree)) 0 c.rest)
 
 -- a statement that ends behind its keyword
 abbrev pub read_word_alone : RawStmt → ReaderOf RawStmt
@@ -222,30 +222,45 @@ read_declare source whole ts = after (read_decl source whole ts) (λ d. got (sta
 abbrev pub read_value : Reader → ReaderOf RawStmt
 read_value whole ts = after (whole ts) (λ a. after (past semicolon a.rest) (λ us. got (statement a.tree.at (s.Value a.tree)) 0 us))
 
-abbrev pub begun_stmt : (source : List ℕ) → Reader → Reader → ReaderOf RawStmt → Token → TokenKind → ReaderOf RawStmt
-begun_stmt source whole less inner t (kind.Mark m.Semicolon) ts = got (statement t.place s.Empty) 0 ts
-begun_stmt source whole less inner t (kind.Mark m.OpenCurly) ts = read_block inner t ts
-begun_stmt source whole less inner t (kind.Keyword k.If) ts = read_if whole inner t ts
-begun_stmt source whole less inner t (kind.Keyword k.While) ts = read_while whole inner t ts
-begun_stmt source whole less inner t (kind.Keyword k.Do) ts = read_do whole inner t ts
-begun_stmt source whole less inner t (kind.Keyword k.For) ts = read_for source whole less inner t ts
-begun_stmt source whole less inner t (kind.Keyword k.Break) ts = read_word_alone (statement t.place s.Break) ts
-begun_stmt source whole less inner t (kind.Keyword k.Continue) ts = read_word_alone (statement t.place s.Continue) ts
-begun_stmt source whole less inner t (kind.Keyword k.Return) ts = read_return whole t ts
-begun_stmt source whole less inner t (kind.Keyword k.Spawn) ts = read_spawn whole inner t ts
-begun_stmt source whole less inner t (kind.Keyword k.Ps) ts = read_ps source t ts
-begun_stmt source whole less inner t (kind.Keyword k.Psm) ts = read_psm source whole t ts
-begun_stmt source whole less inner t (kind.Keyword k.Printf) ts = read_print source whole t ts
-begun_stmt source whole less inner t (kind.Keyword k.Int) ts = read_declare source whole (t ∷ ts)
-begun_stmt source whole less inner t (kind.Keyword k.Const) ts = read_declare source whole (t ∷ ts)
-begun_stmt source whole less inner t (kind.Keyword k.Volatile) ts = read_declare source whole (t ∷ ts)
-begun_stmt source whole less inner t _ ts = read_value whole (t ∷ ts)
+-- inner reads a statement that stands inside, and piece a declaration or a statement of a body
+abbrev pub begun_stmt : (source : List ℕ) → Reader → Reader → ReaderOf RawStmt → ReaderOf RawStmt → Token → TokenKind → ReaderOf RawStmt
+begun_stmt source whole less inner piece t (kind.Mark m.Semicolon) ts = got (statement t.place s.Empty) 0 ts
+begun_stmt source whole less inner piece t (kind.Mark m.OpenCurly) ts = read_block piece t ts
+begun_stmt source whole less inner piece t (kind.Keyword k.If) ts = read_if whole inner t ts
+begun_stmt source whole less inner piece t (kind.Keyword k.While) ts = read_while whole inner t ts
+begun_stmt source whole less inner piece t (kind.Keyword k.Do) ts = read_do whole inner t ts
+begun_stmt source whole less inner piece t (kind.Keyword k.For) ts = read_for source whole less inner t ts
+begun_stmt source whole less inner piece t (kind.Keyword k.Break) ts = read_word_alone (statement t.place s.Break) ts
+begun_stmt source whole less inner piece t (kind.Keyword k.Continue) ts = read_word_alone (statement t.place s.Continue) ts
+begun_stmt source whole less inner piece t (kind.Keyword k.Return) ts = read_return whole t ts
+begun_stmt source whole less inner piece t (kind.Keyword k.Spawn) ts = read_spawn whole piece t ts
+begun_stmt source whole less inner piece t (kind.Keyword k.Ps) ts = read_ps source t ts
+begun_stmt source whole less inner piece t (kind.Keyword k.Psm) ts = read_psm source whole t ts
+begun_stmt source whole less inner piece t (kind.Keyword k.Printf) ts = read_print source whole t ts
+begun_stmt source whole less inner piece t (kind.Keyword k.Int) ts = None
+begun_stmt source whole less inner piece t (kind.Keyword k.Const) ts = None
+begun_stmt source whole less inner piece t (kind.Keyword k.Volatile) ts = None
+begun_stmt source whole less inner piece t _ ts = read_value whole (t ∷ ts)
 
-abbrev pub stmt_of : (source : List ℕ) → Reader → Reader → ReaderOf RawStmt → ReaderOf RawStmt
-stmt_of source whole less inner [] = None
-stmt_of source whole less inner (t ∷ ts) = begun_stmt source whole less inner t t.kind ts
+abbrev pub stmt_of : (source : List ℕ) → Reader → Reader → ReaderOf RawStmt → ReaderOf RawStmt → ReaderOf RawStmt
+stmt_of source whole less inner piece [] = None
+stmt_of source whole less inner piece (t ∷ ts) = begun_stmt source whole less inner piece t t.kind ts
+
+-- a declaration is as deep as a statement with its values
+abbrev pub declare_at : (source : List ℕ) (depth : ℕ) → ReaderOf RawStmt
+declare_at source zero ts = None
+declare_at source (suc d) ts = read_declare source (expression source d) ts
+
+-- what stands in a body: a declaration where the first token begins a type, and a statement elsewhere
+abbrev pub piece_of : (source : List ℕ) (depth : ℕ) → ReaderOf RawStmt → ReaderOf RawStmt
+piece_of source depth inner [] = None
+piece_of source depth inner (t ∷ ts) = if begins_type t.kind then declare_at source depth (t ∷ ts) else inner (t ∷ ts)
 
 -- a statement of nesting at most depth; an `else` goes to the nearest `if`
 unfoldable pub read_stmt : (source : List ℕ) (depth : ℕ) → ReaderOf RawStmt
 read_stmt source zero ts = None
-read_stmt source (suc d) ts = stmt_of source (expression source d) (expression source (pred d)) (read_stmt source d) ts
+read_stmt source (suc d) ts = stmt_of source (expression source d) (expression source (pred d)) (read_stmt source d) (piece_of source d (read_stmt source d)) ts
+
+-- a declaration or a statement of nesting at most depth
+abbrev pub read_piece : (source : List ℕ) (depth : ℕ) → ReaderOf RawStmt
+read_piece source depth = piece_of source depth (read_stmt source depth)

@@ -1,4 +1,5 @@
 -- What statements and items are spelled as. One constructor for each alternative of the grammar.
+-- A declaration stands in a body or as the first part of a `for`, and is no statement.
 -- A statement is open where an `else` behind it would belong to it; so an `else` stands only behind a statement that is not open.
 use Rattle.std.specs.Prelude.{◌≡◌, ◌==◌, ◌-◌, ◌+◌, ℕ, suc, max, Bool, true, false, if◌then◌else◌, List, [], ◌∷◌, ◌++◌, Option, Some, None, slice_range}
 use Rattle.xmt_base.specs.declared.Place.{Place}
@@ -92,7 +93,6 @@ module _ (source : List ℕ) where
     pub data SpellsStmt : Bool → ℕ → RawStmt → Tokens → Type 0 where
       empty : (e : Token) → Is e m.Semicolon → SpellsStmt false 1 (statement e.place s.Empty) (e ∷ [])
       value : (e : Token) {n : ℕ} {a : RawExpr} {x : Tokens} → Spells source n Whole a x → Is e m.Semicolon → SpellsStmt false (suc n) (statement a.at (s.Value a)) (x ++ e ∷ [])
-      declare : {n : ℕ} {d : RawDecl} {x : Tokens} → SpellsDecl n d x → SpellsStmt false (suc n) (statement d.at (s.Decl d)) x
       block : (o c : Token) {n : ℕ} {body : List RawStmt} {x : Tokens} → Is o m.OpenCurly → SpellsBody n body x → Is c m.CloseCurly → SpellsStmt false (suc n) (statement o.place (s.Block body)) (o ∷ (x ++ c ∷ []))
       if_alone : (t o c : Token) {open_part : Bool} {i j : ℕ} {a : RawExpr} {b : RawStmt} {x y : Tokens} →
           Key t k.If → Is o m.OpenRound → Spells source i Whole a x → Is c m.CloseRound → SpellsStmt open_part j b y →
@@ -122,7 +122,8 @@ module _ (source : List ℕ) where
       print : (t o a c e : Token) {n : ℕ} {all : List RawExpr} {x : Tokens} → Key t k.Printf → Is o m.OpenRound → a.kind ≡ kind.Text → SpellsBehind n all x → Is c m.CloseRound → Is e m.Semicolon →
           SpellsStmt false (suc n) (statement t.place (s.Print (text_of source a) all)) (t ∷ o ∷ a ∷ (x ++ c ∷ e ∷ []))
 
-    -- statements one behind the other, and the greatest nesting
+    -- declarations and statements one behind the other, and the greatest nesting
     pub data SpellsBody : ℕ → List RawStmt → Tokens → Type 0 where
       no_more : SpellsBody 0 [] []
+      one_declared : {i j : ℕ} {d : RawDecl} {rest : List RawStmt} {x y : Tokens} → SpellsDecl i d x → SpellsBody j rest y → SpellsBody (max (suc i) j) (statement d.at (s.Decl d) ∷ rest) (x ++ y)
       one_more : {open_part : Bool} {i j : ℕ} {b : RawStmt} {rest : List RawStmt} {x y : Tokens} → SpellsStmt open_part i b x → SpellsBody j rest y → SpellsBody (max i j) (b ∷ rest) (x ++ y)

@@ -35,7 +35,6 @@ module _ (source : List ℕ) where
     statement_has : {open_part : Bool} {n : ℕ} (a : RawStmt) (ts : Tokens) → SpellsStmt source open_part n a ts → AreGood source ts → HasTexts a.kind
     statement_has a ts (stmts.empty e semicolon) good = tt
     statement_has a ts (stmts.value e {x = x} spells semicolon) good = tt
-    statement_has a ts (stmts.declare spells) good = tt
     statement_has a ts (stmts.block o c {body = body} {x = x} opens spells closes) good = rows_have body (body_has body x spells (front x (c ∷ []) good.1))
     statement_has a ts (stmts.if_alone t o c {b = b} {x = x} {y = y} key opens test closes spells) good = (((statement_has b y spells (rest x (c ∷ y) good.1.1).1), tt), tt)
     statement_has a ts (stmts.if_else t o c u {b = b} {d = d} {x = x} {y = y} {z = z} key opens test closes spells other_key other) good =
@@ -56,6 +55,7 @@ module _ (source : List ℕ) where
 
     body_has : {n : ℕ} (body : List RawStmt) (ts : Tokens) → SpellsBody source n body ts → AreGood source ts → ListHasTexts body
     body_has body ts stmts.no_more good = tt
+    body_has body ts (stmts.one_declared {rest = more} {x = x} {y = y} spells behind) good = (tt, body_has more y behind (rest x y good))
     body_has body ts (stmts.one_more {b = b} {rest = more} {x = x} {y = y} spells behind) good = (statement_has b x spells (front x y good), body_has more y behind (rest x y good))
 
   global_has : {n : ℕ} (g : RawGlobal) (ts : Tokens) → SpellsGlobal source n g ts → AreGood source ts → IsSpelled (name_of_global g).bytes

@@ -19,6 +19,7 @@ use Rattle.xmt_lex.specs.declared.kinds.Mark.TheVariants as m
 use Rattle.raw_tree.specs.declared.tree.RawSpot.{RawSpot}
 use Rattle.raw_tree.specs.declared.tree.RawExpr.{RawExpr}
 use Rattle.raw_tree.specs.declared.tree.RawStmt.{RawStmt}
+use Rattle.raw_tree.specs.declared.tree.RawStmtKind.TheVariants as kinds
 use Rattle.raw_tree.specs.Level.{Tokens, Level, Post, Tight, Whole, joins_mark}
 use Rattle.raw_tree.specs.Grammar as raw
 use Rattle.raw_tree.specs.Statements as stmt
@@ -165,6 +166,11 @@ module _ (c : thin_names.Context) where
 -- statements behind others
 both : (source : Text) {i j : ℕ} {a b : List RawStmt} {x y : Tokens} → stmt.SpellsBody source i a x → stmt.SpellsBody source j b y → stmt.SpellsBody source (max i j) (a ++ b) (x ++ y)
 both source {j = j} {b = b} {y = y} stmt.no_more second = let same : j ≡ max 0 j = omega arith in subst (λ (n : ℕ). stmt.SpellsBody source n b y) same second
+both source {j = k} {b = b} {y = z} (stmt.one_declared {i = i} {j = j} {d = d} {rest = rest} {x = x} {y = y} first others) second =
+    let same : max (suc i) (max j k) ≡ max (max (suc i) j) k = omega arith in
+    let s : RawStmt = stmt.statement d.at (kinds.Decl d) in
+    subst (λ (n : ℕ). stmt.SpellsBody source n (s ∷ (rest ++ b)) ((x ++ y) ++ z)) same
+    (subst (stmt.SpellsBody source (max (suc i) (max j k)) (s ∷ (rest ++ b))) (sym (append_assoc x y z)) (stmt.one_declared first (both source others second)))
 both source {j = k} {b = b} {y = z} (stmt.one_more {i = i} {j = j} {b = s} {rest = rest} {x = x} {y = y} first others) second =
     let same : max i (max j k) ≡ max (max i j) k = omega arith in
     subst (λ (n : ℕ). stmt.SpellsBody source n (s ∷ (rest ++ b)) ((x ++ y) ++ z)) same

@@ -440,7 +440,7 @@ fn read_function<'a>(
     ts: &'a [Token],
 ) -> Result<Read<'a, RawItem>, ReadError>
     requires { depth < 2 ^ 20 }
-    ensures { gives.Gives result (items.read_function (code.read_stmt source.now depth) at head all ts.now) }
+    ensures { gives.Gives result (items.read_function (code.read_piece source.now depth) at head all ts.now) }
 {
     if all_named(&all) {
         let inner = past(Expected::OpenCurly, ts)?;
@@ -461,7 +461,7 @@ fn read_headed<'a>(
     ts: &'a [Token],
 ) -> Result<Read<'a, RawItem>, ReadError>
     requires { depth < 2 ^ 20 }
-    ensures { gives.Gives result (items.read_headed source.now (code.read_stmt source.now depth) at head ts.now) }
+    ensures { gives.Gives result (items.read_headed source.now (code.read_piece source.now depth) at head ts.now) }
 {
     let inner = past(Expected::OpenRound, ts)?;
     let all = read_params(alloc, source, inner)?;
@@ -502,7 +502,7 @@ fn read_typed<'a>(
     ts: &'a [Token],
 ) -> Result<Read<'a, RawItem>, ReadError>
     requires { depth < 2 ^ 20 }
-    ensures { gives.Gives result (items.read_typed source.now (code.read_stmt source.now depth) at (made returns) ts.now) }
+    ensures { gives.Gives result (items.read_typed source.now (code.read_piece source.now depth) at (made returns) ts.now) }
 {
     let name = read_name(alloc, source, ts)?;
     let Read {
@@ -528,7 +528,7 @@ fn read_main<'a>(
     ts: &'a [Token],
 ) -> Result<Read<'a, RawItem>, ReadError>
     requires { depth < 2 ^ 20 }
-    ensures { gives.Gives result (items.read_main source.now (code.read_stmt source.now depth) t ts.now) }
+    ensures { gives.Gives result (items.read_main source.now (code.read_piece source.now depth) t ts.now) }
 {
     if is_main(source, t) {
         let name = name_of(alloc, source, t)?;

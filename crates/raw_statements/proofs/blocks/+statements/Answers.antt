@@ -3,8 +3,8 @@ use Rattle.xmt_lex.specs.declared.kinds.Keyword.TheVariants as k
 use Rattle.std.proofs.lemmas.Result.{err_from_is_err_and}
 use Rattle.raw_tree.specs.Gives.{view}
 use Rattle.raw_tree.specs.Reading.{expression}
-use Rattle.raw_tree.specs.ReadingStatements.{read_stmt, read_body}
-use Rattle.raw_statements.proofs.Turns.{stmt_deepest, stmt_deeper, stmt_empty, body_exit, body_end, body_ends_none, body_turn, for_exit, begun_for}
+use Rattle.raw_tree.specs.ReadingStatements.{read_stmt, read_piece, read_body}
+use Rattle.raw_statements.proofs.Turns.{stmt_deepest, stmt_deeper, piece_empty, body_exit, body_end, body_ends_none, body_turn, for_exit, begun_for}
 use Rattle.raw_statements.proofs.blocks.+statements.Goals as goal
 
 pub read_statement-returns-then-depth-eq0 : goal.read_statement-returns-then-depth-eq0
@@ -15,24 +15,24 @@ read_statement-returns-else-depth-eq0 t c = rw (stmt_deeper c.args.source.now c.
 
 pub read_body-returns-in-Some : goal.read_body-returns-in-Some
 read_body-returns-in-Some t c =
-    let inner = read_stmt c.args.source.now c.args.d in
-    body_end inner (stmt_empty c.args.source.now c.args.d) c.parts.turns c.parts.all c.parts.left.now c.in-Some.rest.now (read_body inner c.args.ts.now) c.parts.invariant c.in-Some.ensures
+    let piece = read_piece c.args.source.now c.args.d in
+    body_end piece (piece_empty c.args.source.now c.args.d) c.parts.turns c.parts.all c.parts.left.now c.in-Some.rest.now (read_body piece c.args.ts.now) c.parts.invariant c.in-Some.ensures
 
 pub read_body-returns-then-turns-eq0 : goal.read_body-returns-then-turns-eq0
 read_body-returns-then-turns-eq0 t c =
-    let inner = read_stmt c.args.source.now c.args.d in
-    body_ends_none inner (stmt_empty c.args.source.now c.args.d) c.parts.turns c.parts.all c.parts.left.now (read_body inner c.args.ts.now) c.parts.invariant c.in-None.ensures c.if-turns-eq0.true
+    let piece = read_piece c.args.source.now c.args.d in
+    body_ends_none piece (piece_empty c.args.source.now c.args.d) c.parts.turns c.parts.all c.parts.left.now (read_body piece c.args.ts.now) c.parts.invariant c.in-None.ensures c.if-turns-eq0.true
 
 pub read_body-returns-in_err-one-in-None : goal.read_body-returns-in_err-one-in-None
 read_body-returns-in_err-one-in-None t c =
-    let inner = read_stmt c.args.source.now c.args.d in
+    let piece = read_piece c.args.source.now c.args.d in
     let p = err_from_is_err_and c.from_residual.result c.from_residual.ensures.1 in
-    body_exit inner (stmt_empty c.args.source.now c.args.d) c.parts.turns c.parts.all c.parts.left.now (read_body inner c.args.ts.now) c.from_residual.result p.1 p.2 c.parts.invariant c.in-None.ensures c.in_err-one-in-None.ensures
+    body_exit piece (piece_empty c.args.source.now c.args.d) c.parts.turns c.parts.all c.parts.left.now (read_body piece c.args.ts.now) c.from_residual.result p.1 p.2 c.parts.invariant c.in-None.ensures c.in_err-one-in-None.ensures
 
 pub read_body-parts-preserved : goal.read_body-parts-preserved
 read_body-parts-preserved t c =
-    let inner = read_stmt c.args.source.now c.args.d in
-    body_turn inner (stmt_empty c.args.source.now c.args.d) c.parts.turns c.parts.all c.parts.left.now (read_body inner c.args.ts.now) (view c.in_ok-one-in-None.one) c.push.new.self
+    let piece = read_piece c.args.source.now c.args.d in
+    body_turn piece (piece_empty c.args.source.now c.args.d) c.parts.turns c.parts.all c.parts.left.now (read_body piece c.args.ts.now) (view c.in_ok-one-in-None.one) c.push.new.self
     c.parts.invariant c.in-None.ensures (omega (arith, c.if-turns-eq0.false)) c.in_ok-one-in-None.ensures c.in_ok-push-in-None.ensures.ok
 
 pub read_for-returns-in_err-head : goal.read_for-returns-in_err-head
@@ -45,4 +45,4 @@ is_for t c = rw c.in-Keyword-For.is at c.in-Keyword-For.field-0-is
 
 pub begun-returns-in-Keyword-For : goal.begun-returns-in-Keyword-For
 begun-returns-in-Keyword-For t c =
-    begun_for c.args.source.now (expression c.args.source.now c.args.d) (expression c.args.source.now (pred c.args.d)) (read_stmt c.args.source.now c.args.d) c.args.ts.now _ _ c.read_for.result c.in-len1-up.len_at_least c.in-Keyword-For.is (is_for t c) c.read_for.ensures
+    begun_for c.args.source.now (expression c.args.source.now c.args.d) (expression c.args.source.now (pred c.args.d)) (read_stmt c.args.source.now c.args.d) (read_piece c.args.source.now c.args.d) c.args.ts.now _ _ c.read_for.result c.in-len1-up.len_at_least c.in-Keyword-For.is (is_for t c) c.read_for.ensures
