@@ -1,5 +1,5 @@
--- Trees in which each declaration stands among other statements or in the first part of a `for`. One that is a branch, or the body of a loop, stands for a
--- block with the declaration in it, which has a node more than is counted in the tree.
+-- Trees in which each declaration stands among other statements or in the first part of a `for`, as it does in every tree that tokens spell.
+-- One that is a branch, or the body of a loop, stands for a block with the declaration in it, which has a node more than is counted in the tree.
 use Rattle.std.specs.Prelude.{List, [], ◌∷◌}
 use Rattle.raw_tree.specs.declared.tree.RawStmt.{RawStmt}
 use Rattle.raw_tree.specs.declared.tree.RawStmtKind.{RawStmtKind, Row_of-RawStmt, end_of-RawStmt, more_of-RawStmt, Held-RawStmtKind-If-2, None', Some'}
