@@ -1,10 +1,11 @@
 use Rattle.std.proofs.Common.{◌≡◌, ℕ, pred, arith}
 use Rattle.xmt_lex.specs.declared.kinds.Keyword.TheVariants as k
+use Rattle.xmt_lex.specs.declared.kinds.Mark.TheVariants as m
 use Rattle.std.proofs.lemmas.Result.{err_from_is_err_and}
 use Rattle.raw_tree.specs.Gives.{view}
 use Rattle.raw_tree.specs.Reading.{expression}
 use Rattle.raw_tree.specs.ReadingStatements.{read_stmt, read_piece, read_body}
-use Rattle.raw_statements.proofs.Turns.{stmt_deepest, stmt_deeper, piece_empty, body_exit, body_end, body_ends_none, body_turn, for_exit, begun_for}
+use Rattle.raw_statements.proofs.Turns.{stmt_deepest, stmt_deeper, piece_empty, body_exit, body_end, body_ends_none, body_turn, for_exit, begun_for, begun_block}
 use Rattle.raw_statements.proofs.blocks.+statements.Goals as goal
 
 pub read_statement-returns-then-depth-eq0 : goal.read_statement-returns-then-depth-eq0
@@ -46,3 +47,11 @@ is_for t c = rw c.in-Keyword-For.is at c.in-Keyword-For.field-0-is
 pub begun-returns-in-Keyword-For : goal.begun-returns-in-Keyword-For
 begun-returns-in-Keyword-For t c =
     begun_for c.args.source.now (expression c.args.source.now c.args.d) (expression c.args.source.now (pred c.args.d)) (read_stmt c.args.source.now c.args.d) (read_piece c.args.source.now c.args.d) c.args.ts.now _ _ c.read_for.result c.in-len1-up.len_at_least c.in-Keyword-For.is (is_for t c) c.read_for.ensures
+
+is_open : (t : ℕ) (c : goal.begun-After-read_block t) → c.in-Mark-OpenCurly.field-0 ≡ m.OpenCurly
+is_open t c = rw c.in-Mark-OpenCurly.is at c.in-Mark-OpenCurly.field-0-is
+
+pub begun-returns-in-Mark-OpenCurly : goal.begun-returns-in-Mark-OpenCurly
+begun-returns-in-Mark-OpenCurly t c =
+    begun_block c.args.source.now (expression c.args.source.now c.args.d) (expression c.args.source.now (pred c.args.d)) (read_stmt c.args.source.now c.args.d) (read_piece c.args.source.now c.args.d) c.args.ts.now _ _ c.read_block.result
+    c.in-len1-up.len_at_least c.in-Mark-OpenCurly.is (is_open t c) c.read_block.ensures
