@@ -536,7 +536,7 @@ static TREES: [(&[u8], &str); 56] = [
     (b"#define N 3\nint A[N]={N,N};", "int A[3]={3 3 };"),
 ];
 
-static REFUSALS: [(&[u8], &str); 56] = [
+static REFUSALS: [(&[u8], &str); 61] = [
     (b"", "!Syntax 1:1"),
     (b"int x", "!Syntax 1:6"),
     (b"int x=;", "!Syntax 1:7"),
