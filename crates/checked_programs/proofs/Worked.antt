@@ -16,8 +16,8 @@ use Rattle.spawn_check.specs.declared.refusal.SpawnKind.TheVariants.{DollarOutsi
 use Rattle.spawn_check.specs.Table.{dollar_outside, return_inside, jump_out, nested, print_inside, call_prints, call_spawns, MeetsNone}
 use Rattle.checked_programs.specs.Fits.{HasFunction, BodyFits}
 use Rattle.checked_programs.specs.Declares.{DeclaresOnce}
-use Rattle.checked_programs.specs.Limits.{IsWithinLimits, FunctionIsWithinLimits}
-use Rattle.checked_programs.specs.Checked.{IsNamed, HasLength, IsChecked}
+use Rattle.checked_programs.specs.Limits.{IsWithinLimits, FunctionIsWithinLimits, HasFewNodes}
+use Rattle.checked_programs.specs.Checked.{IsShortName, HasLength, IsChecked}
 
 -- `int A[4] = {1, 2}; main() { int i; i = A[1]; } int twice(int x) { x = x + x; }`
 abbrev a : GlobalVar
@@ -86,7 +86,7 @@ sample_is_checked = record {
   parameters = two (λ f. f.params ≤ f.variables) main twice (omega arith) (omega arith);
   bodies = two (BodyFits sample) main twice main_fits twice_fits;
   declared_once = two DeclaresOnce main twice main_declares twice_declares;
-  named = one IsNamed a (record { spelled = refl; short = omega arith });
+  named = one (λ (x : GlobalVar). IsShortName x.name) a (record { spelled = refl; short = omega arith });
   names_differ = one_alone (λ x y. x.name ≢ y.name) a;
   lengths = one HasLength a (record { some = omega arith; room = omega arith; scalar = λ is. absurd (apart is) });
   blocks = sample_meets_none;
@@ -99,8 +99,11 @@ sample_is_within_limits = record {
   registers = omega arith;
   functions = omega arith;
   each_function = two FunctionIsWithinLimits main twice (record { variables = omega arith; parameters = omega arith; waiting = refl }) (record { variables = omega arith; parameters = omega arith; waiting = refl });
-  nodes = omega arith;
 }
+
+sample_has_few_nodes : HasFewNodes sample
+unfolding opened
+sample_has_few_nodes = omega arith
 
 -- ---- one broken condition each
 
@@ -158,7 +161,7 @@ declared_parameter : DeclaresOnce (record { name = codes "f"; value = true; para
 declared_parameter once = absurd (omega (arith, once.no_parameter 0 0 (omega arith)))
 
 -- `int int;`
-keyword : IsNamed (scalar (codes "int")) → ⊥
+keyword : IsShortName (codes "int") → ⊥
 keyword named = distinct named.spelled
 
 -- `int x, x;`

@@ -1,5 +1,5 @@
 -- Which programs are checked.
-use Rattle.std.specs.Prelude.{◌≡◌, ◌≢◌, ◌^◌, ◌<◌, ◌≤◌, false, All, AllPairs, length}
+use Rattle.std.specs.Prelude.{◌≡◌, ◌≢◌, ℕ, ◌^◌, ◌<◌, ◌≤◌, false, List, All, AllPairs, length}
 use Rattle.xmt_base.specs.Name.{IsName}
 use Rattle.source_meaning.specs.declared.tree.GlobalVar.{GlobalVar}
 use Rattle.source_meaning.specs.declared.tree.Program.{Program}
@@ -8,10 +8,10 @@ use Rattle.spawn_check.specs.Table.{MeetsNone}
 use Rattle.checked_programs.specs.Fits.{HasFunction, BodyFits}
 use Rattle.checked_programs.specs.Declares.{DeclaresOnce}
 
--- the name is spelled as names are, and a length fits into 32 bits
-pub record IsNamed (global : GlobalVar) : Type 0 where
-  pub spelled : IsName global.name
-  pub short : length global.name < 2 ^ 32
+-- a name that is spelled as names are, and whose length fits into 32 bits
+pub record IsShortName (name : List ℕ) : Type 0 where
+  pub spelled : IsName name
+  pub short : length name < 2 ^ 32
 
 -- a global has a word at least, and room for its opening values; a scalar has one word
 pub record HasLength (global : GlobalVar) : Type 0 where
@@ -27,7 +27,7 @@ pub record IsChecked (program : Program) : Type 0 where
   -- each text one for each number that it prints
   pub bodies : All (BodyFits program) program.functions
   pub declared_once : All DeclaresOnce program.functions
-  pub named : All IsNamed program.globals
+  pub named : All (λ global. IsShortName global.name) program.globals
   pub names_differ : AllPairs (λ a b. a.name ≢ b.name) program.globals
   pub lengths : All HasLength program.globals
   -- no line of the table of spawn blocks is met

@@ -30,10 +30,12 @@ pub record FunctionIsWithinLimits (function : Function) : Type 0 where
   -- in no statement more than 256 values wait
   pub waiting : some_in_list (λ s. nat_lt 256 (most_waiting s)) function.body ≡ false
 
--- that a print has at most 16 values is asked of its text, and the nesting by the grammar
+-- a print has at most 16 values as its text has, and the nesting is that of the grammar
 pub record IsWithinLimits (program : Program) : Type 0 where
   pub globals : length program.globals ≤ 4096
   pub registers : length program.registers ≤ 8
   pub functions : length program.functions ≤ 1000
   pub each_function : All FunctionIsWithinLimits program.functions
-  pub nodes : program_nodes program ≤ 65536
+
+abbrev pub HasFewNodes : Program → Type 0
+HasFewNodes program = program_nodes program ≤ 65536

@@ -1,7 +1,7 @@
 -- Where nothing stands that is barred from a region.
-use Rattle.std.proofs.Common.{◌≡◌, refl, sym, ◌∙◌, arith, ℕ, Bool, true, false, List, Some, ◌⊎◌, inl, inr}
-use Rattle.std.specs.Prelude.{not, ◌||◌, ◌==◌, slice_get}
-use Rattle.std.proofs.lemmas.Bool.Decides.{nat_tests}
+use Rattle.std.proofs.Common.{◌≡◌, refl, sym, ◌∙◌, ℕ, Bool, true, false, List, Some, ◌⊎◌, inl, inr}
+use Rattle.std.proofs.lemmas.Bool.{true≢false, false≢true, or_cases, eq-eqb, not-true}
+use Rattle.std.specs.Prelude.{◌||◌, slice_get}
 use Rattle.source_meaning.specs.declared.tree.ExprKind.{ExprKind}
 use Rattle.source_meaning.specs.declared.tree.ExprKind.TheVariants as expr
 use Rattle.source_meaning.specs.declared.tree.Stmt.{Stmt}
@@ -18,13 +18,6 @@ use Rattle.checked_quads.specs.Inner.{is_serial, Reaches, itself, by_call, AreIn
 use Rattle.checked_quads.specs.Plain.{is_sum}
 use Rattle.checked_quads.proofs.Rules.{serial_in, is_outside, outside_in, is_barred}
 
-clash : {A : Type 0} → true ≡ false → A
-clash is = absurd cc
-
-or_cases : (a b : Bool) → (a || b) ≡ true → (a ≡ true) ⊎ (b ≡ true)
-or_cases true b is = inl refl
-or_cases false b is = inr is
-
 -- why a statement is barred
 data Cause : Type 0 where
   sum : Cause
@@ -36,13 +29,6 @@ test_of sum = is_sum
 test_of print_or_spawn = is_serial
 test_of (outside g) = some_of_statement (is_call g)
 
-itself_called : (f : ℕ) → (f == f) ≡ true
-itself_called f = grind (arith, nat_tests)
-
-not_true : (b : Bool) → not b ≡ true → b ≡ false
-not_true true is = clash (sym is)
-not_true false is = refl
-
 abbrev IsOutside : (inner : (function : ℕ) → Bool) → Region → (g : ℕ) → Type 0
 IsOutside inner region g = (region ≡ Inner) × (inner g ≡ false)
 
@@ -53,28 +39,28 @@ IsCause inner region (outside g) = IsOutside inner region g
 
 module _ (inner : (function : ℕ) → Bool) where
   each_outside : (kind : ExprKind) → Leads (IsOutside inner Inner) (is_outside inner kind) (λ g. is_call g kind)
-  each_outside (expr.Number n) is = clash (sym is)
-  each_outside expr.Dollar is = clash (sym is)
-  each_outside (expr.Read s) is = clash (sym is)
-  each_outside (expr.Assign' s shape e) is = clash (sym is)
-  each_outside (expr.Update' op s shape e) is = clash (sym is)
-  each_outside (expr.Step s up after) is = clash (sym is)
-  each_outside (expr.Unary' op shape e) is = clash (sym is)
-  each_outside (expr.Binary' op left a right b) is = clash (sym is)
-  each_outside (expr.Both' left a right b) is = clash (sym is)
-  each_outside (expr.Either' left a right b) is = clash (sym is)
-  each_outside (expr.Choose' first test left a right b) is = clash (sym is)
-  each_outside (expr.Call' f shape values) is = (f, (refl, not_true (inner f) is), itself_called f)
+  each_outside (expr.Number n) is = absurd (false≢true is)
+  each_outside expr.Dollar is = absurd (false≢true is)
+  each_outside (expr.Read s) is = absurd (false≢true is)
+  each_outside (expr.Assign' s shape e) is = absurd (false≢true is)
+  each_outside (expr.Update' op s shape e) is = absurd (false≢true is)
+  each_outside (expr.Step s up after) is = absurd (false≢true is)
+  each_outside (expr.Unary' op shape e) is = absurd (false≢true is)
+  each_outside (expr.Binary' op left a right b) is = absurd (false≢true is)
+  each_outside (expr.Both' left a right b) is = absurd (false≢true is)
+  each_outside (expr.Either' left a right b) is = absurd (false≢true is)
+  each_outside (expr.Choose' first test left a right b) is = absurd (false≢true is)
+  each_outside (expr.Call' f shape values) is = (f, (refl, not-true (inner f) is), eq-eqb f f refl)
 
   each_call : (region : Region) (kind : ExprKind) → Leads (IsOutside inner region) (outside_in inner region kind) (λ g. is_call g kind)
   each_call Inner kind is = each_outside kind is
-  each_call Serial kind is = clash (sym is)
-  each_call InBlock kind is = clash (sym is)
+  each_call Serial kind is = absurd (false≢true is)
+  each_call InBlock kind is = absurd (false≢true is)
 
   serial_cause : (region : Region) (s : StmtKind) → serial_in region s ≡ true → (region ≡ Inner) × (is_serial s ≡ true)
   serial_cause Inner s is = (refl, is)
-  serial_cause Serial s is = clash (sym is)
-  serial_cause InBlock s is = clash (sym is)
+  serial_cause Serial s is = absurd (false≢true is)
+  serial_cause InBlock s is = absurd (false≢true is)
 
   each_barred : (region : Region) (s : StmtKind) → Leads (IsCause inner region) (is_barred inner region s) (λ c. test_of c s)
   each_barred region s is = chosen (or_cases (is_sum s) (serial_in region s || some_of_statement (outside_in inner region) s) is)
@@ -97,7 +83,7 @@ module _ (inner : (function : ℕ) → Bool) where
   none_barred region body none = chosen (some_in_list (is_barred inner region) body) refl
     where
       met : (c : Cause) × IsCause inner region c × (some_in_list (test_of c) body ≡ true) → some_in_list (is_barred inner region) body ≡ false
-      met (c, good, is) = clash (sym is ∙ none c good)
+      met (c, good, is) = absurd (true≢false (sym is ∙ none c good))
 
       chosen : (t : Bool) → some_in_list (is_barred inner region) body ≡ t → some_in_list (is_barred inner region) body ≡ false
       chosen false is = is
@@ -132,7 +118,7 @@ module _ (inner : (function : ℕ) → Bool) where
       where
         chosen : (t : Bool) → calls g function.body ≡ t → calls g function.body ≡ false
         chosen false is = is
-        chosen true is = clash (sym ((are_inner g).1 (λ reached. reaches_none (by_call function found is reached))) ∙ not_inner)
+        chosen true is = absurd (true≢false (sym ((are_inner g).1 (λ reached. reaches_none (by_call function found is reached))) ∙ not_inner))
 
     pub none_in_inner : some_in_list is_sum function.body ≡ false → some_in_list (is_barred inner Inner) function.body ≡ false
     none_in_inner sums = none_barred Inner function.body by_cause
@@ -143,28 +129,28 @@ module _ (inner : (function : ℕ) → Bool) where
         by_cause (outside g) good = no_call g good.1
 
     each_sharing : (slot : ℕ) (s : StmtKind) → Leads (λ (none : Bool). Unit {0}) (is_sharing slot s) (λ none. is_serial s)
-    each_sharing slot stmt.Empty is = clash (sym is)
-    each_sharing slot (stmt.Value e) is = clash (sym is)
-    each_sharing slot (stmt.Declare other value) is = clash (sym is)
-    each_sharing slot (stmt.Block' shape body) is = clash (sym is)
-    each_sharing slot (stmt.If' test shape body other) is = clash (sym is)
-    each_sharing slot (stmt.While' test shape body) is = clash (sym is)
-    each_sharing slot (stmt.Do' shape body test) is = clash (sym is)
-    each_sharing slot (stmt.For' first_shape first test third shape body) is = clash (sym is)
-    each_sharing slot stmt.Break is = clash (sym is)
-    each_sharing slot stmt.Continue is = clash (sym is)
-    each_sharing slot (stmt.Return value) is = clash (sym is)
+    each_sharing slot stmt.Empty is = absurd (false≢true is)
+    each_sharing slot (stmt.Value e) is = absurd (false≢true is)
+    each_sharing slot (stmt.Declare other value) is = absurd (false≢true is)
+    each_sharing slot (stmt.Block' shape body) is = absurd (false≢true is)
+    each_sharing slot (stmt.If' test shape body other) is = absurd (false≢true is)
+    each_sharing slot (stmt.While' test shape body) is = absurd (false≢true is)
+    each_sharing slot (stmt.Do' shape body test) is = absurd (false≢true is)
+    each_sharing slot (stmt.For' first_shape first test third shape body) is = absurd (false≢true is)
+    each_sharing slot stmt.Break is = absurd (false≢true is)
+    each_sharing slot stmt.Continue is = absurd (false≢true is)
+    each_sharing slot (stmt.Return value) is = absurd (false≢true is)
     each_sharing slot (stmt.Spawn' low high shape block) is = (true, tt, refl)
-    each_sharing slot (stmt.Ps v r) is = clash (sym is)
-    each_sharing slot (stmt.Psm v x) is = clash (sym is)
-    each_sharing slot (stmt.Print text values) is = clash (sym is)
+    each_sharing slot (stmt.Ps v r) is = absurd (false≢true is)
+    each_sharing slot (stmt.Psm v x) is = absurd (false≢true is)
+    each_sharing slot (stmt.Print text values) is = absurd (false≢true is)
 
     -- it shares no variable, since it has no block
     pub shares_none : (slot : ℕ) → is_shared function.body slot ≡ false
     shares_none slot = chosen (is_shared function.body slot) refl
       where
         met : (none : Bool) × Unit {0} × (some_in_list is_serial function.body ≡ true) → is_shared function.body slot ≡ false
-        met (none, u, is) = clash (sym is ∙ no_serial)
+        met (none, u, is) = absurd (true≢false (sym is ∙ no_serial))
 
         chosen : (t : Bool) → is_shared function.body slot ≡ t → is_shared function.body slot ≡ false
         chosen false is = is

@@ -1,7 +1,7 @@
 -- Variables that are declared one behind the other, none of which is known before.
 use Rattle.std.proofs.Common.{◌≡◌, refl, sym, ◌∙◌, ap, subst, arith, ℕ, suc, Bool, true, false, List, [], ◌∷◌, ◌++◌, get_or, ◌⊎◌, inl, inr}
+use Rattle.std.proofs.lemmas.Bool.{true≢false, false≢true, or_cases, or_left, or_right, eqb-true}
 use Rattle.std.specs.Prelude.{All, AllPairs, ◌≢◌, ◌==◌, ◌||◌}
-use Rattle.std.proofs.lemmas.Bool.Decides.{nat_tests}
 use Rattle.std.proofs.lemmas.List.Elements.{All-head, All-tail}
 use Rattle.source_meaning.specs.declared.tree.StmtKind.{StmtKind, Row_of-Stmt, end_of-Stmt, more_of-Stmt, Held-StmtKind-If-2, None', Some'}
 use Rattle.source_meaning.specs.declared.tree.StmtKind.TheVariants as stmt
@@ -22,25 +22,10 @@ abbrev pub Fresh : Known → List ℕ → Type 0
 Fresh known [] = Unit {0}
 Fresh known (slot ∷ rest) = (known slot ≡ false) × Fresh (with_one known slot) rest
 
-clash : {A : Type 0} → true ≡ false → A
-clash is = absurd cc
-
 -- ---- fewer known variables
 
 abbrev pub Below : Known → Known → Type 0
 Below less more = (x : ℕ) → less x ≡ true → more x ≡ true
-
-or_cases : (a b : Bool) → (a || b) ≡ true → (a ≡ true) ⊎ (b ≡ true)
-or_cases true b is = inl refl
-or_cases false b is = inr is
-
-or_left : (a b : Bool) → a ≡ true → (a || b) ≡ true
-or_left true b is = refl
-or_left false b is = clash (sym is)
-
-or_right : (a b : Bool) → b ≡ true → (a || b) ≡ true
-or_right true b is = refl
-or_right false b is = is
 
 with_one_below : (less more : Known) (slot : ℕ) → Below less more → Below (with_one less slot) (with_one more slot)
 with_one_below less more slot below x is = chosen (or_cases (less x) (x == slot) is)
@@ -53,7 +38,7 @@ not_known : (less more : Known) (x : ℕ) → Below less more → more x ≡ fal
 not_known less more x below none = chosen (less x) refl
   where
     chosen : (b : Bool) → less x ≡ b → less x ≡ false
-    chosen true is = clash (sym (below x is) ∙ none)
+    chosen true is = absurd (true≢false (sym (below x is) ∙ none))
     chosen false is = is
 
 pub fresh_below : (less more : Known) (slots : List ℕ) → Below less more → Fresh more slots → Fresh less slots
@@ -118,26 +103,23 @@ fresh_behind_row known row rest fresh = fresh_below (behind_row known row) (with
 
 -- ---- what is declared is not known before
 
-same_number : (a b : ℕ) → (a == b) ≡ true → a ≡ b
-same_number a b is = grind (arith, nat_tests)
-
 module _ (x : ℕ) where
   pub declared_here : (known : Known) (kind : StmtKind) → is_declaration x kind ≡ true → Fresh known (declared_in kind) → known x ≡ false
-  declared_here known stmt.Empty is fresh = clash (sym is)
-  declared_here known (stmt.Value e) is fresh = clash (sym is)
-  declared_here known (stmt.Declare slot value) is fresh = ap known (same_number x slot is) ∙ fresh.0
-  declared_here known (stmt.Block' shape body) is fresh = clash (sym is)
-  declared_here known (stmt.If' test shape body other) is fresh = clash (sym is)
-  declared_here known (stmt.While' test shape body) is fresh = clash (sym is)
-  declared_here known (stmt.Do' shape body test) is fresh = clash (sym is)
-  declared_here known (stmt.For' first_shape first test third shape body) is fresh = clash (sym is)
-  declared_here known stmt.Break is fresh = clash (sym is)
-  declared_here known stmt.Continue is fresh = clash (sym is)
-  declared_here known (stmt.Return value) is fresh = clash (sym is)
-  declared_here known (stmt.Spawn' low high shape block) is fresh = clash (sym is)
-  declared_here known (stmt.Ps v r) is fresh = clash (sym is)
-  declared_here known (stmt.Psm v p) is fresh = clash (sym is)
-  declared_here known (stmt.Print text values) is fresh = clash (sym is)
+  declared_here known stmt.Empty is fresh = absurd (false≢true is)
+  declared_here known (stmt.Value e) is fresh = absurd (false≢true is)
+  declared_here known (stmt.Declare slot value) is fresh = ap known (eqb-true x slot is) ∙ fresh.0
+  declared_here known (stmt.Block' shape body) is fresh = absurd (false≢true is)
+  declared_here known (stmt.If' test shape body other) is fresh = absurd (false≢true is)
+  declared_here known (stmt.While' test shape body) is fresh = absurd (false≢true is)
+  declared_here known (stmt.Do' shape body test) is fresh = absurd (false≢true is)
+  declared_here known (stmt.For' first_shape first test third shape body) is fresh = absurd (false≢true is)
+  declared_here known stmt.Break is fresh = absurd (false≢true is)
+  declared_here known stmt.Continue is fresh = absurd (false≢true is)
+  declared_here known (stmt.Return value) is fresh = absurd (false≢true is)
+  declared_here known (stmt.Spawn' low high shape block) is fresh = absurd (false≢true is)
+  declared_here known (stmt.Ps v r) is fresh = absurd (false≢true is)
+  declared_here known (stmt.Psm v p) is fresh = absurd (false≢true is)
+  declared_here known (stmt.Print text values) is fresh = absurd (false≢true is)
 
   one_of : (known : Known) (a b : Bool) (front rest : List ℕ) → (a || b) ≡ true → Fresh known (front ++ rest) → (a ≡ true → Fresh known front → known x ≡ false) →
       (b ≡ true → Fresh known rest → known x ≡ false) → known x ≡ false
@@ -156,9 +138,9 @@ module _ (x : ℕ) where
 
   mutual
     pub declared_below : (known : Known) (kind : StmtKind) → some_below (is_declaration x) kind ≡ true → Fresh known (declared_in kind) → known x ≡ false
-    declared_below known stmt.Empty is fresh = clash (sym is)
-    declared_below known (stmt.Value e) is fresh = clash (sym is)
-    declared_below known (stmt.Declare slot value) is fresh = clash (sym is)
+    declared_below known stmt.Empty is fresh = absurd (false≢true is)
+    declared_below known (stmt.Value e) is fresh = absurd (false≢true is)
+    declared_below known (stmt.Declare slot value) is fresh = absurd (false≢true is)
     declared_below known (stmt.Block' shape body) is fresh = declared_before known body is fresh
     declared_below known (stmt.If' test shape body other) is fresh =
         one_of known (some_in_body (is_declaration x) body) (some_in_other (is_declaration x) other) (declared_in_row body) (declared_in_else other) is fresh
@@ -168,23 +150,23 @@ module _ (x : ℕ) where
     declared_below known (stmt.For' first_shape first test third shape body) is fresh =
         one_of known (some_in_body (is_declaration x) first) (some_in_body (is_declaration x) body) (declared_in_row first) (declared_in_row body) is fresh
         (λ here new. declared_before known first here new) (λ here new. declared_before known body here new)
-    declared_below known stmt.Break is fresh = clash (sym is)
-    declared_below known stmt.Continue is fresh = clash (sym is)
-    declared_below known (stmt.Return value) is fresh = clash (sym is)
+    declared_below known stmt.Break is fresh = absurd (false≢true is)
+    declared_below known stmt.Continue is fresh = absurd (false≢true is)
+    declared_below known (stmt.Return value) is fresh = absurd (false≢true is)
     declared_below known (stmt.Spawn' low high shape block) is fresh = declared_before known block is fresh
-    declared_below known (stmt.Ps v r) is fresh = clash (sym is)
-    declared_below known (stmt.Psm v p) is fresh = clash (sym is)
-    declared_below known (stmt.Print text values) is fresh = clash (sym is)
+    declared_below known (stmt.Ps v r) is fresh = absurd (false≢true is)
+    declared_below known (stmt.Psm v p) is fresh = absurd (false≢true is)
+    declared_below known (stmt.Print text values) is fresh = absurd (false≢true is)
 
     pub declared_before : (known : Known) {n : _} (row : Row_of-Stmt n) → is_declared_in x row ≡ true → Fresh known (declared_in_row row) → known x ≡ false
-    declared_before known end_of-Stmt is fresh = clash (sym is)
+    declared_before known end_of-Stmt is fresh = absurd (false≢true is)
     declared_before known (more_of-Stmt place kind rest) is fresh =
         one_of known (is_declaration x kind || some_below (is_declaration x) kind) (some_in_body (is_declaration x) rest) (declared_in kind) (declared_in_row rest) is fresh
         (λ here new. either_way known (is_declaration x kind) (some_below (is_declaration x) kind) here (λ own. declared_here known kind own new) (λ deep. declared_below known kind deep new))
         (λ here new. declared_before known rest here new)
 
     pub declared_in_other : (known : Known) (other : Held-StmtKind-If-2) → some_in_other (is_declaration x) other ≡ true → Fresh known (declared_in_else other) → known x ≡ false
-    declared_in_other known None' is fresh = clash (sym is)
+    declared_in_other known None' is fresh = absurd (false≢true is)
     declared_in_other known (Some' shape body) is fresh = declared_before known body is fresh
 
 -- ---- at the start of a function
@@ -199,7 +181,7 @@ other_number : (a b : ℕ) → (a ≡ b → ⊥) → (b == a) ≡ false
 other_number a b apart = chosen (b == a) refl
   where
     chosen : (t : Bool) → (b == a) ≡ t → (b == a) ≡ false
-    chosen true is = absurd (apart (sym (same_number b a is)))
+    chosen true is = absurd (apart (sym (eqb-true b a is)))
     chosen false is = is
 
 pub all_fresh : (known : Known) (slots : List ℕ) → AllPairs (λ a b. a ≢ b) slots → All (λ slot. known slot ≡ false) slots → Fresh known slots

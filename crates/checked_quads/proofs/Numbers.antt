@@ -1,5 +1,6 @@
 -- Names that are known stay so under other numbers of shared variables, where a variable that a block declares has none.
 use Rattle.std.proofs.Common.{◌≡◌, ℕ, Bool, true, false, Option, None}
+use Rattle.std.proofs.lemmas.Bool.{or_left, or_right}
 use Rattle.source_meaning.specs.declared.tree.StmtKind.{StmtKind, Row_of-Stmt, end_of-Stmt, more_of-Stmt, Held-StmtKind-If-2, None', Some'}
 use Rattle.source_meaning.specs.declared.tree.StmtKind.TheVariants as stmt
 use Rattle.source_meaning.specs.Inside.{some_in_body, some_in_other, some_statement}
@@ -7,7 +8,7 @@ use Rattle.source_meaning.specs.Variables.{is_declared_in}
 use Rattle.checked_programs.specs.Fits.{Known}
 use Rattle.quad_code.specs.Known as quads
 use Rattle.quad_code.specs.Known.{Region, InBlock, StatementKnown, SequenceKnown, ElseKnown}
-use Rattle.checked_quads.proofs.OwnBlocks.{declares_in_block, or_left, or_right}
+use Rattle.checked_quads.proofs.OwnBlocks.{declares_in_block}
 
 module _ (globals : ℕ) (MayCall : Region → (function values : ℕ) → Type 0) (variables : ℕ) (old new : (slot : ℕ) → Option ℕ) where
   mutual

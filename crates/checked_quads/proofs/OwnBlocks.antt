@@ -1,8 +1,7 @@
 -- A variable that a block declares is shared by no block.
-use Rattle.std.proofs.Common.{◌≡◌, refl, sym, ◌∙◌, ap, ℕ, Bool, true, false, List, [], ◌∷◌, ◌++◌, Option, ◌⊎◌, inl, inr}
-use Rattle.std.specs.Prelude.{◌||◌, ◌&&◌, ◌==◌, not}
-use Rattle.std.proofs.lemmas.Bool.Decides.{nat_tests}
-use Rattle.std.proofs.Common.{arith}
+use Rattle.std.proofs.Common.{◌≡◌, refl, sym, ◌∙◌, ℕ, Bool, true, false, List, [], ◌∷◌, ◌++◌, Option, ◌⊎◌, inl, inr}
+use Rattle.std.proofs.lemmas.Bool.{true≢false, false≢true, or_cases, or_left, or_right, and_right, not_from_true}
+use Rattle.std.specs.Prelude.{◌||◌, ◌==◌, not}
 use Rattle.source_meaning.specs.declared.tree.StmtKind.{StmtKind, Row_of-Stmt, end_of-Stmt, more_of-Stmt, Held-StmtKind-If-2, None', Some'}
 use Rattle.source_meaning.specs.declared.tree.StmtKind.TheVariants as stmt
 use Rattle.source_meaning.specs.Inside.{some_below, some_in_body, some_in_other, some_statement}
@@ -14,31 +13,6 @@ use Rattle.quad_code.specs.Known.{Region, Serial, Inner, InBlock, OwnVariables, 
 use Rattle.checked_quads.proofs.Fresh.{with_one, with_all, with_all_above, Fresh, fresh_front, fresh_behind, fresh_rest, declared_before, declared_below, declared_here, declared_in_other}
 use Rattle.checked_quads.proofs.Expressions.{first_none, second_none}
 use Rattle.checked_quads.proofs.Unwritten.{neither, still_unknown, unknown_behind, unshared, unshared_rows, unshared_else}
-
-clash : {A : Type 0} → true ≡ false → A
-clash is = absurd cc
-
-or_cases : (a b : Bool) → (a || b) ≡ true → (a ≡ true) ⊎ (b ≡ true)
-or_cases true b is = inl refl
-or_cases false b is = inr is
-
-pub or_left : (a b : Bool) → a ≡ true → (a || b) ≡ true
-or_left true b is = refl
-or_left false b is = clash (sym is)
-
-pub or_right : (a b : Bool) → b ≡ true → (a || b) ≡ true
-or_right true b is = refl
-or_right false b is = is
-
-second_fails : (a b : Bool) → b ≡ true → (a && not b) ≡ false
-second_fails true b is = ap not is
-second_fails false b is = refl
-
-equal_numbers : (n : ℕ) → (n == n) ≡ true
-equal_numbers n = grind (arith, nat_tests)
-
-same_number : (a b : ℕ) → (a == b) ≡ true → a ≡ b
-same_number a b is = grind (arith, nat_tests)
 
 -- the statement is a spawn whose block declares the variable
 abbrev pub declares_in_block : (slot : ℕ) → StmtKind → Bool
@@ -62,21 +36,21 @@ module _ (x : ℕ) where
       chosen (inr there) = right there (with_all known front)
 
   known_here : (kind : StmtKind) → is_declaration x kind ≡ true → (known : Known) → with_all known (declared_in kind) x ≡ true
-  known_here stmt.Empty is known = clash (sym is)
-  known_here (stmt.Value e) is known = clash (sym is)
+  known_here stmt.Empty is known = absurd (false≢true is)
+  known_here (stmt.Value e) is known = absurd (false≢true is)
   known_here (stmt.Declare slot value) is known = or_right (known x) (x == slot) is
-  known_here (stmt.Block' shape body) is known = clash (sym is)
-  known_here (stmt.If' test shape body other) is known = clash (sym is)
-  known_here (stmt.While' test shape body) is known = clash (sym is)
-  known_here (stmt.Do' shape body test) is known = clash (sym is)
-  known_here (stmt.For' first_shape first test third shape body) is known = clash (sym is)
-  known_here stmt.Break is known = clash (sym is)
-  known_here stmt.Continue is known = clash (sym is)
-  known_here (stmt.Return value) is known = clash (sym is)
-  known_here (stmt.Spawn' low high shape block) is known = clash (sym is)
-  known_here (stmt.Ps v r) is known = clash (sym is)
-  known_here (stmt.Psm v p) is known = clash (sym is)
-  known_here (stmt.Print text values) is known = clash (sym is)
+  known_here (stmt.Block' shape body) is known = absurd (false≢true is)
+  known_here (stmt.If' test shape body other) is known = absurd (false≢true is)
+  known_here (stmt.While' test shape body) is known = absurd (false≢true is)
+  known_here (stmt.Do' shape body test) is known = absurd (false≢true is)
+  known_here (stmt.For' first_shape first test third shape body) is known = absurd (false≢true is)
+  known_here stmt.Break is known = absurd (false≢true is)
+  known_here stmt.Continue is known = absurd (false≢true is)
+  known_here (stmt.Return value) is known = absurd (false≢true is)
+  known_here (stmt.Spawn' low high shape block) is known = absurd (false≢true is)
+  known_here (stmt.Ps v r) is known = absurd (false≢true is)
+  known_here (stmt.Psm v p) is known = absurd (false≢true is)
+  known_here (stmt.Print text values) is known = absurd (false≢true is)
 
   here_or_below : (kind : StmtKind) → (is_declaration x kind || some_below (is_declaration x) kind) ≡ true → (known : Known) →
       (some_below (is_declaration x) kind ≡ true → with_all known (declared_in kind) x ≡ true) → with_all known (declared_in kind) x ≡ true
@@ -88,9 +62,9 @@ module _ (x : ℕ) where
 
   mutual
     known_below : (kind : StmtKind) → some_below (is_declaration x) kind ≡ true → (known : Known) → with_all known (declared_in kind) x ≡ true
-    known_below stmt.Empty is known = clash (sym is)
-    known_below (stmt.Value e) is known = clash (sym is)
-    known_below (stmt.Declare slot value) is known = clash (sym is)
+    known_below stmt.Empty is known = absurd (false≢true is)
+    known_below (stmt.Value e) is known = absurd (false≢true is)
+    known_below (stmt.Declare slot value) is known = absurd (false≢true is)
     known_below (stmt.Block' shape body) is known = known_behind body is known
     known_below (stmt.If' test shape body other) is known =
         behind_two known (some_in_body (is_declaration x) body) (some_in_other (is_declaration x) other) (declared_in_row body) (declared_in_else other) is
@@ -100,22 +74,22 @@ module _ (x : ℕ) where
     known_below (stmt.For' first_shape first test third shape body) is known =
         behind_two known (some_in_body (is_declaration x) first) (some_in_body (is_declaration x) body) (declared_in_row first) (declared_in_row body) is
         (λ here k. known_behind first here k) (λ here k. known_behind body here k)
-    known_below stmt.Break is known = clash (sym is)
-    known_below stmt.Continue is known = clash (sym is)
-    known_below (stmt.Return value) is known = clash (sym is)
+    known_below stmt.Break is known = absurd (false≢true is)
+    known_below stmt.Continue is known = absurd (false≢true is)
+    known_below (stmt.Return value) is known = absurd (false≢true is)
     known_below (stmt.Spawn' low high shape block) is known = known_behind block is known
-    known_below (stmt.Ps v r) is known = clash (sym is)
-    known_below (stmt.Psm v p) is known = clash (sym is)
-    known_below (stmt.Print text values) is known = clash (sym is)
+    known_below (stmt.Ps v r) is known = absurd (false≢true is)
+    known_below (stmt.Psm v p) is known = absurd (false≢true is)
+    known_below (stmt.Print text values) is known = absurd (false≢true is)
 
     known_behind : {n : _} (row : Row_of-Stmt n) → some_in_body (is_declaration x) row ≡ true → (known : Known) → with_all known (declared_in_row row) x ≡ true
-    known_behind end_of-Stmt is known = clash (sym is)
+    known_behind end_of-Stmt is known = absurd (false≢true is)
     known_behind (more_of-Stmt place kind rest) is known =
         behind_two known (is_declaration x kind || some_below (is_declaration x) kind) (some_in_body (is_declaration x) rest) (declared_in kind) (declared_in_row rest) is
         (λ here k. here_or_below kind here k (λ below. known_below kind below k)) (λ here k. known_behind rest here k)
 
     known_in_other : (other : Held-StmtKind-If-2) → some_in_other (is_declaration x) other ≡ true → (known : Known) → with_all known (declared_in_else other) x ≡ true
-    known_in_other None' is known = clash (sym is)
+    known_in_other None' is known = absurd (false≢true is)
     known_in_other (Some' shape body) is known = known_behind body is known
 
   known_statement : (kind : StmtKind) → some_statement (is_declaration x) kind ≡ true → (known : Known) → with_all known (declared_in kind) x ≡ true
@@ -134,14 +108,14 @@ module _ (x : ℕ) where
   not_second known front rest b fresh first second = chosen b refl
     where
       chosen : (t : Bool) → b ≡ t → b ≡ false
-      chosen true is = clash (sym (first known) ∙ second is (with_all known front) (fresh_rest known front rest fresh))
+      chosen true is = absurd (true≢false (sym (first known) ∙ second is (with_all known front) (fresh_rest known front rest fresh)))
       chosen false is = is
 
   not_first : (known : Known) (front rest : List ℕ) (a : Bool) → Fresh known (front ++ rest) → (a ≡ true → (k : Known) → with_all k front x ≡ true) → ((k : Known) → Fresh k rest → k x ≡ false) → a ≡ false
   not_first known front rest a fresh first second = chosen a refl
     where
       chosen : (t : Bool) → a ≡ t → a ≡ false
-      chosen true is = clash (sym (first is known) ∙ second (with_all known front) (fresh_rest known front rest fresh))
+      chosen true is = absurd (true≢false (sym (first is known) ∙ second (with_all known front) (fresh_rest known front rest fresh)))
       chosen false is = is
 
   -- ---- a block that declares it stands in what declares it
@@ -162,9 +136,9 @@ module _ (x : ℕ) where
 
   mutual
     block_below : (kind : StmtKind) → some_statement (declares_in_block x) kind ≡ true → some_below (is_declaration x) kind ≡ true
-    block_below stmt.Empty is = clash (sym is)
-    block_below (stmt.Value e) is = clash (sym is)
-    block_below (stmt.Declare slot value) is = clash (sym is)
+    block_below stmt.Empty is = absurd (false≢true is)
+    block_below (stmt.Value e) is = absurd (false≢true is)
+    block_below (stmt.Declare slot value) is = absurd (false≢true is)
     block_below (stmt.Block' shape body) is = block_rows body is
     block_below (stmt.If' test shape body other) is =
         either (some_in_body (declares_in_block x) body) (some_in_other (declares_in_block x) other) (some_in_body (is_declaration x) body) (some_in_other (is_declaration x) other) is
@@ -174,22 +148,22 @@ module _ (x : ℕ) where
     block_below (stmt.For' first_shape first test third shape body) is =
         either (some_in_body (declares_in_block x) first) (some_in_body (declares_in_block x) body) (some_in_body (is_declaration x) first) (some_in_body (is_declaration x) body) is
         (λ here. block_rows first here) (λ here. block_rows body here)
-    block_below stmt.Break is = clash (sym is)
-    block_below stmt.Continue is = clash (sym is)
-    block_below (stmt.Return value) is = clash (sym is)
+    block_below stmt.Break is = absurd (false≢true is)
+    block_below stmt.Continue is = absurd (false≢true is)
+    block_below (stmt.Return value) is = absurd (false≢true is)
     block_below (stmt.Spawn' low high shape block) is = merged (is_declared_in x block) (some_in_body (declares_in_block x) block) (is_declared_in x block) is (λ here. here) (λ here. block_rows block here)
-    block_below (stmt.Ps v r) is = clash (sym is)
-    block_below (stmt.Psm v p) is = clash (sym is)
-    block_below (stmt.Print text values) is = clash (sym is)
+    block_below (stmt.Ps v r) is = absurd (false≢true is)
+    block_below (stmt.Psm v p) is = absurd (false≢true is)
+    block_below (stmt.Print text values) is = absurd (false≢true is)
 
     pub block_rows : {n : _} (row : Row_of-Stmt n) → some_in_body (declares_in_block x) row ≡ true → some_in_body (is_declaration x) row ≡ true
-    block_rows end_of-Stmt is = clash (sym is)
+    block_rows end_of-Stmt is = absurd (false≢true is)
     block_rows (more_of-Stmt place kind rest) is =
         either (some_statement (declares_in_block x) kind) (some_in_body (declares_in_block x) rest) (is_declaration x kind || some_below (is_declaration x) kind) (some_in_body (is_declaration x) rest) is
         (λ here. or_right (is_declaration x kind) (some_below (is_declaration x) kind) (block_below kind here)) (λ here. block_rows rest here)
 
     block_else : (other : Held-StmtKind-If-2) → some_in_other (declares_in_block x) other ≡ true → some_in_other (is_declaration x) other ≡ true
-    block_else None' is = clash (sym is)
+    block_else None' is = absurd (false≢true is)
     block_else (Some' shape body) is = block_rows body is
 
   block_declares : (kind : StmtKind) → some_statement (declares_in_block x) kind ≡ true → some_statement (is_declaration x) kind ≡ true
@@ -199,7 +173,7 @@ module _ (x : ℕ) where
   no_own : (kind : StmtKind) → some_statement (declares_in_block x) kind ≡ true → is_declaration x kind ≡ false
   no_own stmt.Empty is = refl
   no_own (stmt.Value e) is = refl
-  no_own (stmt.Declare slot value) is = clash (sym is)
+  no_own (stmt.Declare slot value) is = absurd (false≢true is)
   no_own (stmt.Block' shape body) is = refl
   no_own (stmt.If' test shape body other) is = refl
   no_own (stmt.While' test shape body) is = refl
@@ -300,8 +274,8 @@ module _ (x : ℕ) where
       own_block k l loop region stmt.Continue unknown known fresh is = refl
       own_block k l loop region (stmt.Return value) unknown known fresh is = refl
       own_block k l loop region (stmt.Spawn' low high shape block) unknown known fresh is =
-          neither (second_fails (is_written_in x block) (is_declared_in x block)
-          (merged (is_declared_in x block) (some_in_body (declares_in_block x) block) (is_declared_in x block) is (λ here. here) (λ here. block_rows block here)))
+          neither (and_right (is_written_in x block) (not (is_declared_in x block))
+          (not_from_true (is_declared_in x block) (merged (is_declared_in x block) (some_in_body (declares_in_block x) block) (is_declared_in x block) is (λ here. here) (λ here. block_rows block here))))
           (none_in_rows l false block known.3)
       own_block k l loop region (stmt.Ps v r) unknown known fresh is = absurd known
       own_block k l loop region (stmt.Psm v p) unknown known fresh is = absurd known

@@ -1,8 +1,8 @@
 -- The laws on checked programs.
 use Rattle.std.proofs.Common.{length, ◌∙◌, ◌++◌, ◌≡◌, refl, sym, ap, subst, arith, ℕ, zero, suc, ◌≤◌, Bool, true, false, List, [], ◌∷◌, Some, None}
+use Rattle.std.proofs.lemmas.Bool.{le-ltb}
 use Rattle.std.specs.Prelude.{All, Contains, ◌||◌, nat_lt, slice_get, if◌then◌else◌}
 use Rattle.std.specs.Option.{unwrap_or}
-use Rattle.std.proofs.lemmas.Bool.Decides.{nat_tests}
 use Rattle.std.proofs.lemmas.List.Elements.{All-head, All-tail, All-weaker, Contains-append_left, Contains-append_right}
 use Rattle.source_meaning.specs.declared.tree.GlobalVar.{GlobalVar}
 use Rattle.source_meaning.specs.declared.tree.Stmt.{Stmt}
@@ -53,9 +53,6 @@ function_within (g ∷ rest) (suc f) function found =
       holds = λ x is. Contains-append_right (in_list (around_at Serial false) g.body) (of_functions [] (λ before behind. before ++ behind) single rest) x (inside.holds x is);
     }
 
-not_below : (slot params : ℕ) → params ≤ slot → nat_lt slot params ≡ false
-not_below slot params above = grind (arith, nat_tests)
-
 in_rows : (test : StmtKind → Bool) (body : List Stmt) → some_in_body test (rows_of body) ≡ some_in_list test body
 in_rows test [] = refl
 in_rows test (s ∷ rest) = ap (λ found. some_statement test s.kind || found) (in_rows test rest)
@@ -70,7 +67,7 @@ module _ (p : Program) (inner : (function : ℕ) → Bool) (checked : IsChecked 
     fresh =
         let once = at_place DeclaresOnce p.functions f function checked.declared_once found in
         all_fresh (λ x. nat_lt x function.params) (declared_in_list function.body) once.differ
-        (All-weaker (λ slot. function.params ≤ slot) (λ slot. nat_lt slot function.params ≡ false) (λ slot above. not_below slot function.params above) (declared_in_list function.body) once.no_parameter)
+        (All-weaker (λ slot. function.params ≤ slot) (λ slot. nat_lt slot function.params ≡ false) (λ slot above. le-ltb slot function.params above) (declared_in_list function.body) once.no_parameter)
 
     fresh_rows : Fresh (λ x. nat_lt x function.params) (declared_in_row (rows_of function.body))
     fresh_rows = subst (Fresh (λ x. nat_lt x function.params)) (sym (declared_rows function.body)) fresh

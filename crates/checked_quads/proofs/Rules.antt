@@ -1,5 +1,6 @@
 -- What the table of spawn blocks leaves for single statements, by the region in which they stand.
-use Rattle.std.proofs.Common.{◌≡◌, refl, sym, arith, ℕ, Bool, true, false, List, [], ◌∷◌, ◌++◌, Option, Some, ◌⊎◌, inl, inr}
+use Rattle.std.proofs.Common.{◌≡◌, refl, arith, ℕ, Bool, true, false, List, [], ◌∷◌, ◌++◌, Option, Some, ◌⊎◌, inl, inr}
+use Rattle.std.proofs.lemmas.Bool.{true≢false, false≢true, not-false}
 use Rattle.std.specs.Prelude.{Contains, not, ◌||◌, IsTrue, slice_get}
 use Rattle.std.proofs.lemmas.List.Elements.{Contains-append_left, Contains-append_right}
 use Rattle.xmt_base.specs.declared.Place.{Place}
@@ -118,9 +119,6 @@ is_barred inner region s = is_sum s || (serial_in region s || some_of_statement 
 
 -- ---- the rules
 
-clash : {A : Type 0} → true ≡ false → A
-clash is = absurd cc
-
 module _ (p : Program) (blocks : MeetsNone p) where
   pub jump_rule : (region : Region) (loop : Bool) (place : Place) → Within (in_statement (around_at region loop) place stmt.Break) (occurrences p) → loop ≡ true
   jump_rule region true place within = refl
@@ -134,13 +132,13 @@ module _ (p : Program) (blocks : MeetsNone p) where
   pub print_rule : (region : Region) (loop : Bool) (place : Place) (text : List ℕ) (values : List Expr) →
       Within (in_statement (around_at region loop) place (stmt.Print text values)) (occurrences p) → serial_in region (stmt.Print text values) ≡ false → region ≡ Serial
   print_rule Serial loop place text values within none = refl
-  print_rule Inner loop place text values within none = clash none
+  print_rule Inner loop place text values within none = absurd (true≢false none)
   print_rule InBlock loop place text values within none = absurd (blocks PrintInside place (print_inside (record { found = within.holds _ (first_found _ _) })))
 
   pub spawn_rule : (region : Region) (loop : Bool) (place : Place) (low high : Expr) (shape : _) (block : _) →
       Within (in_statement (around_at region loop) place (stmt.Spawn' low high shape block)) (occurrences p) → serial_in region (stmt.Spawn' low high shape block) ≡ false → region ≡ Serial
   spawn_rule Serial loop place low high shape block within none = refl
-  spawn_rule Inner loop place low high shape block within none = clash none
+  spawn_rule Inner loop place low high shape block within none = absurd (true≢false none)
   spawn_rule InBlock loop place low high shape block within none = absurd (blocks Nested place (nested (record { found = within.holds _ (first_found _ _) })))
 
   -- ---- calls
@@ -156,20 +154,20 @@ module _ (p : Program) (blocks : MeetsNone p) where
   kind_test false = is_spawn
 
   each_serial : (s : StmtKind) → Leads (λ (b : Bool). Unit {0}) (is_serial s) (λ b. kind_test b s)
-  each_serial stmt.Empty is = clash (sym is)
-  each_serial (stmt.Value e) is = clash (sym is)
-  each_serial (stmt.Declare slot value) is = clash (sym is)
-  each_serial (stmt.Block' shape body) is = clash (sym is)
-  each_serial (stmt.If' test shape body other) is = clash (sym is)
-  each_serial (stmt.While' test shape body) is = clash (sym is)
-  each_serial (stmt.Do' shape body test) is = clash (sym is)
-  each_serial (stmt.For' first_shape first test third shape body) is = clash (sym is)
-  each_serial stmt.Break is = clash (sym is)
-  each_serial stmt.Continue is = clash (sym is)
-  each_serial (stmt.Return value) is = clash (sym is)
+  each_serial stmt.Empty is = absurd (false≢true is)
+  each_serial (stmt.Value e) is = absurd (false≢true is)
+  each_serial (stmt.Declare slot value) is = absurd (false≢true is)
+  each_serial (stmt.Block' shape body) is = absurd (false≢true is)
+  each_serial (stmt.If' test shape body other) is = absurd (false≢true is)
+  each_serial (stmt.While' test shape body) is = absurd (false≢true is)
+  each_serial (stmt.Do' shape body test) is = absurd (false≢true is)
+  each_serial (stmt.For' first_shape first test third shape body) is = absurd (false≢true is)
+  each_serial stmt.Break is = absurd (false≢true is)
+  each_serial stmt.Continue is = absurd (false≢true is)
+  each_serial (stmt.Return value) is = absurd (false≢true is)
   each_serial (stmt.Spawn' low high shape block) is = (false, tt, refl)
-  each_serial (stmt.Ps v r) is = clash (sym is)
-  each_serial (stmt.Psm v x) is = clash (sym is)
+  each_serial (stmt.Ps v r) is = absurd (false≢true is)
+  each_serial (stmt.Psm v x) is = absurd (false≢true is)
   each_serial (stmt.Print text values) is = (true, tt, refl)
 
   carried : {f g : ℕ} (function : Function) → slice_get p.functions f ≡ Some function → calls g function.body ≡ true →
@@ -194,12 +192,8 @@ module _ (p : Program) (blocks : MeetsNone p) where
         refused (inl reached) = blocks PrintInside place (call_prints (record { found = within.holds _ (first_found _ _) }) (as_table is_print (λ body is. is) f reached))
         refused (inr reached) = blocks CallReachesSpawn place (call_spawns (record { found = within.holds _ (first_found _ _) }) (as_table is_spawn (λ body is. is) f reached))
 
-    not_false : (b : Bool) → not b ≡ false → b ≡ true
-    not_false true is = refl
-    not_false false is = clash is
-
     pub call_rule : (region : Region) (loop : Bool) (place : Place) (f : ℕ) (shape : _) (values : _) → Within (in_expression (around_at region loop) place (expr.Call' f shape values)) (occurrences p) →
         outside_in inner region (expr.Call' f shape values) ≡ false → (count : ℕ) → HasFunction p f count → MayCall p inner region f count
     call_rule Serial loop place f shape values within none count has = has
-    call_rule Inner loop place f shape values within none count has = (has, not_false (inner f) none)
+    call_rule Inner loop place f shape values within none count has = (has, not-false (inner f) none)
     call_rule InBlock loop place f shape values within none count has = (has, in_block_inner loop place f shape values within)

@@ -1,9 +1,8 @@
 -- A variable that is neither known nor declared is not written, and no block shares it.
 use Rattle.std.proofs.Common.{◌≡◌, refl, sym, ◌∙◌, ap, ℕ, Bool, true, false, List, [], ◌∷◌, Option, Some, None}
-use Rattle.std.specs.Prelude.{◌||◌, ◌&&◌, ◌==◌, not, nat_lt}
+use Rattle.std.proofs.lemmas.Bool.{true≢false, and_left, eqb-true}
+use Rattle.std.specs.Prelude.{◌||◌, ◌==◌, not, nat_lt}
 use Rattle.std.specs.List.{list_any}
-use Rattle.std.proofs.lemmas.Bool.Decides.{nat_tests}
-use Rattle.std.proofs.Common.{arith}
 use Rattle.source_meaning.specs.declared.tree.Expr.{Expr}
 use Rattle.source_meaning.specs.declared.tree.ExprKind.{ExprKind, Row_of-Expr, end_of-Expr, more_of-Expr}
 use Rattle.source_meaning.specs.declared.tree.ExprKind.TheVariants as expr
@@ -19,19 +18,9 @@ use Rattle.quad_code.specs.Known as quads
 use Rattle.quad_code.specs.Known.{Region, InBlock, NamesKnown, SpotKnown, AllKnown, OptionKnown, StatementKnown, SequenceKnown, ElseKnown}
 use Rattle.checked_quads.proofs.Expressions.{first_none, second_none}
 
-clash : {A : Type 0} → true ≡ false → A
-clash is = absurd cc
-
 pub neither : {a b : Bool} → a ≡ false → b ≡ false → (a || b) ≡ false
 neither {a = true} is other = is
 neither {a = false} is other = other
-
-pub first_fails : (a b : Bool) → a ≡ false → (a && b) ≡ false
-first_fails true b is = clash is
-first_fails false b is = refl
-
-same_number : (a b : ℕ) → (a == b) ≡ true → a ≡ b
-same_number a b is = grind (arith, nat_tests)
 
 module _ (globals : ℕ) (x : ℕ) where
   -- ---- expressions
@@ -41,7 +30,7 @@ module _ (globals : ℕ) (x : ℕ) where
     other_local slot known = chosen (x == slot) refl
       where
         chosen : (t : Bool) → (x == slot) ≡ t → (x == slot) ≡ false
-        chosen true is = clash (sym known ∙ sym (ap l (same_number x slot is)) ∙ unknown)
+        chosen true is = absurd (true≢false (sym known ∙ sym (ap l (eqb-true x slot is)) ∙ unknown))
         chosen false is = is
 
     not_local : (p : Spot) → SpotKnown globals MayCall l p → is_local x p ≡ false
@@ -107,7 +96,7 @@ module _ (globals : ℕ) (x : ℕ) where
     pub still_unknown : (l : Known) (kind : StmtKind) → l x ≡ false → is_declaration x kind ≡ false → quads.declared variables l kind x ≡ false
     still_unknown l stmt.Empty unknown other = unknown
     still_unknown l (stmt.Value e) unknown other = unknown
-    still_unknown l (stmt.Declare slot value) unknown other = neither unknown (first_fails (x == slot) (nat_lt x variables) other)
+    still_unknown l (stmt.Declare slot value) unknown other = neither unknown (and_left (x == slot) (nat_lt x variables) other)
     still_unknown l (stmt.Block' shape body) unknown other = unknown
     still_unknown l (stmt.If' test shape body else_part) unknown other = unknown
     still_unknown l (stmt.While' test shape body) unknown other = unknown
@@ -197,7 +186,7 @@ module _ (globals : ℕ) (x : ℕ) where
       unshared l loop region stmt.Continue unknown known none = refl
       unshared l loop region (stmt.Return value) unknown known none = refl
       unshared l loop region (stmt.Spawn' low high shape block) unknown known none =
-          neither (first_fails (is_written_in x block) (not (is_declared_in x block)) (unwritten_rows l false InBlock block unknown known.3 none)) (unshared_rows l false InBlock block unknown known.3 none)
+          neither (and_left (is_written_in x block) (not (is_declared_in x block)) (unwritten_rows l false InBlock block unknown known.3 none)) (unshared_rows l false InBlock block unknown known.3 none)
       unshared l loop region (stmt.Ps v r) unknown known none = absurd known
       unshared l loop region (stmt.Psm v p) unknown known none = absurd known
       unshared l loop region (stmt.Print text values) unknown known none = refl

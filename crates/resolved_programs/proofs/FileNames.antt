@@ -1,5 +1,6 @@
 -- Each name that a file declares stands for a thing that is there.
 use Rattle.std.proofs.Common.{◌≡◌, refl, sym, ◌∙◌, ap, arith, ℕ, ◌+◌, ◌<◌, ◌≤◌, Bool, true, false, List, [], ◌∷◌, ◌++◌, length, length-append, append_assoc, Some}
+use Rattle.std.proofs.lemmas.List.{length-map}
 use Rattle.std.specs.Prelude.{map, is_some, if◌then◌else◌, slice_get}
 use Rattle.raw_tree.specs.declared.tree.RawName.{RawName}
 use Rattle.raw_tree.specs.declared.tree.RawStmt.{RawStmt}
@@ -29,10 +30,11 @@ use Rattle.checked_programs.specs.Fits.{Known, HasFunction}
 use Rattle.resolved_programs.proofs.NoFaults.{IsEmpty, few}
 use Rattle.resolved_programs.proofs.Meanings.{MeaningFits, NamesFit}
 use Rattle.resolved_programs.proofs.Statements.{names_append}
-use Rattle.resolved_programs.proofs.Reached.{Reached, reached_next, map_length}
+use Rattle.resolved_programs.proofs.Reached.{Reached, reached_next}
 
-pub small : (n limit : ℕ) → n < limit → limit ≤ 4096 → number n ≡ n
-small n limit below few = omega arith
+-- a small number is within 32 bits
+pub small : (n : ℕ) → n ≤ 4096 → number n ≡ n
+small n few = omega arith
 
 at_length : {X : Type 0} (xs : List X) (x : X) (rest : List X) → slice_get (xs ++ x ∷ rest) (length xs) ≡ Some x
 at_length [] x rest = refl
@@ -41,7 +43,7 @@ at_length (y ∷ xs) x rest = at_length xs x rest
 found_at : {X : Type 0} (all xs : List X) (x : X) (rest : List X) (n : ℕ) → all ≡ xs ++ (x ∷ rest) → n ≡ length xs → length all ≤ 4096 → slice_get all (number n) ≡ Some x
 found_at all xs x rest n is at few =
     let long : length all ≡ length xs + length (x ∷ rest) = ap length is ∙ length-append xs (x ∷ rest) in
-    let same : number n ≡ length xs = small n (length all) (omega (arith, long, at)) few ∙ at in
+    let same : number n ≡ length xs = small n (omega (arith, long, at, few)) ∙ at in
     ap (slice_get all) same ∙ ap (λ ys. slice_get ys (length xs)) is ∙ at_length xs x rest
 
 shifted : {X : Type 0} (all xs : List X) (x : X) (rest : List X) → all ≡ xs ++ (x ∷ rest) → all ≡ (xs ++ x ∷ []) ++ rest
@@ -83,7 +85,7 @@ module _ (p : Program) (k : Known) where
   registers_fit (x ∷ rest) more rs file is at few names =
       let long : length p.registers ≡ length rs + length (register x ∷ (map register rest ++ more)) = ap length is ∙ length-append rs (register x ∷ (map register rest ++ more)) in
       let below : length file.registers < length p.registers = omega (arith, long, at) in
-      let same = small (length file.registers) (length p.registers) below (omega (arith, few)) in
+      let same = small (length file.registers) (omega (arith, below, few)) in
       registers_fit rest more (rs ++ register x ∷ []) (enter_register x file)
       (shifted p.registers rs (register x) (map register rest ++ more) is)
       (one_longer file.registers x.name.at rs (register x) at) few
@@ -91,7 +93,7 @@ module _ (p : Program) (k : Known) where
 
   -- a function has at most 8 parameters
   few_params : (ds : List Declared) (result : RawResult) (params : List RawParam) (body : List RawStmt) → IsEmpty (function_faults ds result params body) → length params ≤ 8
-  few_params ds result params body sound = omega (arith, few 8 (map place_of_param params) which.Parameters sound.1.1.0, map_length place_of_param params)
+  few_params ds result params body sound = omega (arith, few 8 (map place_of_param params) which.Parameters sound.1.1.0, length-map params place_of_param)
 
   function_fits : (ds : List Declared) (result : RawResult) (params : List RawParam) (body : List RawStmt) (rest fs : List Function) (n : ℕ) →
       p.functions ≡ fs ++ (function ds result params body ∷ rest) → n ≡ length fs → length p.functions ≤ 1000 → length params ≤ 8 → HasFunction p (number n) (length params)
@@ -99,7 +101,7 @@ module _ (p : Program) (k : Known) where
       record {
         function = function ds result params body;
         found = found_at p.functions fs (function ds result params body) rest n is at (omega (arith, few));
-        counts = sym (small (length params) 9 (omega (arith, few_params)) (omega arith));
+        counts = sym (small (length params) (omega (arith, few_params)));
       }
 
   module _ (ds : List Declared) (few_globals : length p.globals ≤ 4096) (few_registers : length p.registers ≤ 8) (few_functions : length p.functions ≤ 1000) where

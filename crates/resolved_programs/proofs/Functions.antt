@@ -1,7 +1,8 @@
 -- The functions of a program whose names are all there: what their bodies name is there, and they keep to the limits.
 use Rattle.std.proofs.Common.{◌≡◌, ◌∙◌, ap, arith, ℕ, ◌+◌, ◌<◌, ◌≤◌, Bool, true, List, [], ◌∷◌, ◌++◌, length, length-append, Option, Some, None}
+use Rattle.std.proofs.lemmas.Bool.{lt-ltb}
+use Rattle.std.proofs.lemmas.List.{length-map}
 use Rattle.std.specs.Prelude.{All, nat_lt, map}
-use Rattle.std.proofs.lemmas.Bool.Decides.{nat_tests}
 use Rattle.std.proofs.lemmas.List.Elements.{All-nil, All-cons, All-weaker}
 use Rattle.xmt_base.specs.declared.values.Place.{Place}
 use Rattle.raw_tree.specs.declared.tree.RawName.{RawName}
@@ -29,17 +30,11 @@ use Rattle.checked_programs.specs.Limits.{FunctionIsWithinLimits}
 use Rattle.resolved_programs.specs.FromSource.{ListHasTexts, ItemFromSource, ItemsFromSource}
 use Rattle.resolved_programs.proofs.NoFaults.{IsEmpty, few}
 use Rattle.resolved_programs.proofs.Meanings.{NamesFit}
+use Rattle.resolved_programs.proofs.FileNames.{small}
 use Rattle.resolved_programs.proofs.Growth.{grown_all}
 use Rattle.resolved_programs.proofs.Statements.{names_append, body_fits}
 use Rattle.resolved_programs.proofs.StatementWaiting.{body_short}
 use Rattle.resolved_programs.proofs.Numbered.{numbered_body, not_below, differ}
-use Rattle.resolved_programs.proofs.Reached.{map_length}
-
-below : (n m : ℕ) → n < m → nat_lt n m ≡ true
-below n m less = grind (arith, nat_tests)
-
-small : (n : ℕ) → n ≤ 200 → number n ≡ n
-small n few = omega arith
 
 abbrev parameters_known : (count : ℕ) → Known
 parameters_known count = λ x. nat_lt x (number count)
@@ -51,7 +46,7 @@ module _ (p : Program) (count : ℕ) (few_params : count ≤ 8) where
     variables : length e.variables ≡ count
 
   param_known : (n : ℕ) → n < count → parameters_known count (number n) ≡ true
-  param_known n less = ap (λ m. nat_lt m (number count)) (small n (omega arith)) ∙ ap (nat_lt n) (small count (omega arith)) ∙ below n count less
+  param_known n less = ap (λ m. nat_lt m (number count)) (small n (omega (arith, less))) ∙ ap (nat_lt n) (small count (omega arith)) ∙ lt-ltb n count less
 
   named_fits : (constant : Bool) (at : Place) (name : Option RawName) (e : Env) → length e.variables < count → NamesFit p (parameters_known count) e.declared →
       NamesFit p (parameters_known count) (declare_named constant at name e).declared
@@ -81,13 +76,13 @@ pub record IsSound (p : Program) (f : Function) : Type 0 where
 module _ (p : Program) (ds : List Declared) (names : (k : Known) → NamesFit p k ds) where
   function_is_sound : (result : RawResult) (params : List RawParam) (body : List RawStmt) → ListHasTexts body → IsEmpty (function_faults ds result params body) → IsSound p (function ds result params body)
   function_is_sound result params body from sound =
-      let few_params : length params ≤ 8 = omega (arith, few 8 (map place_of_param params) which.Parameters sound.1.1.0, map_length place_of_param params) in
+      let few_params : length params ≤ 8 = omega (arith, few 8 (map place_of_param params) which.Parameters sound.1.1.0, length-map params place_of_param) in
       let few_variables = few 200 (after_all body (at_start ds params)).variables which.Variables sound.1.1.1 in
       let start = begins p (length params) few_params params (record { declared = ds; variables = [] }) (omega arith) (names (parameters_known (length params))) in
       let grown = (grown_all body (at_start ds params)).variables in
       let all_variables : number (length (after_all body (at_start ds params)).variables) ≡ length (after_all body (at_start ds params)).variables =
-      small (length (after_all body (at_start ds params)).variables) few_variables in
-      let all_params : number (length params) ≡ length params = small (length params) (omega arith) in
+      small (length (after_all body (at_start ds params)).variables) (omega (arith, few_variables)) in
+      let all_params : number (length params) ≡ length params = small (length params) (omega (arith, few_params)) in
       let numbered = numbered_body body (at_start ds params) in
       let slots = declared_in_list (function ds result params body).body in
       record {

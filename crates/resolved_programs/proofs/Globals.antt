@@ -1,6 +1,8 @@
 -- The globals of a program: their names differ and are spelled as names, and each has a length.
 use Rattle.std.proofs.Common.{◌≡◌, refl, sym, ◌∙◌, ap, subst, arith, ℕ, ◌^◌, ◌≤◌, Bool, true, false, List, [], ◌∷◌, ◌++◌, length, append_assoc, get_or, Option, Some, None}
-use Rattle.std.specs.Prelude.{All, AllPairs, ◌≢◌, map, sum, nat_lt, ◌==◌, ◌&&◌, is_some, is_none, if◌then◌else◌}
+use Rattle.std.proofs.lemmas.Bool.{true≢false, false≢true, and_parts, ltb-false, ltb-true}
+use Rattle.std.proofs.lemmas.List.{length-map}
+use Rattle.std.specs.Prelude.{All, AllPairs, ◌≢◌, map, sum, nat_lt, ◌==◌, is_some, is_none, if◌then◌else◌}
 use Rattle.std.specs.Option.{unwrap_or}
 use Rattle.std.proofs.lemmas.Bool.Decides.{nat_tests}
 use Rattle.std.proofs.lemmas.List.Elements.{All-nil, All-cons, All-append, All-push, All-weaker}
@@ -22,16 +24,12 @@ use Rattle.name_scopes.specs.Locals.{is_constant}
 use Rattle.name_faults.specs.Nodes.{nodes_of_global, nodes_of_item, nodes_of_items}
 use Rattle.name_faults.specs.Items.{Names, enter_global, enter_globals, enter, name_of_global, meaning_of_global, again_globals, again, again_all, is_length, room, length_fault, initial_faults, global_faults, globals_faults, item_faults, items_faults}
 use Rattle.typed_programs.specs.Items.{value_of, values_of, global, globals_of, all_of}
-use Rattle.checked_programs.specs.Checked.{IsNamed, HasLength}
-use Rattle.resolved_programs.specs.FromSource.{IsSpelled, GlobalsAreSpelled, ItemFromSource, ItemsFromSource}
-use Rattle.resolved_programs.proofs.NoFaults.{IsEmpty, fails, holds_not, at_most}
+use Rattle.checked_programs.specs.Checked.{IsShortName, HasLength}
+use Rattle.resolved_programs.specs.FromSource.{GlobalsAreSpelled, ItemFromSource, ItemsFromSource}
+use Rattle.resolved_programs.proofs.NoFaults.{IsEmpty, fails, holds_not}
 use Rattle.resolved_programs.proofs.Growth.{none_more}
 use Rattle.resolved_programs.proofs.StatementNodes.{sum_more}
 use Rattle.resolved_programs.proofs.Looks.{stays, stays_in_item, declared_first}
-use Rattle.resolved_programs.proofs.Reached.{map_length}
-
-clash : {A : Type 0} → true ≡ false → A
-clash is = absurd cc
 
 -- ---- names
 
@@ -53,10 +51,10 @@ some_stays old new stay name some = found (look old name) refl some
   where
     found : (o : Option Binding) → look old name ≡ o → is_some o ≡ true → is_some (look new name) ≡ true
     found (Some b) is some = ap is_some (stay name b is)
-    found None is some = clash (sym some)
+    found None is some = absurd (false≢true some)
 
 new_differs : (ds : List Declared) (a b : List ℕ) → is_some (look ds a) ≡ true → is_some (look ds b) ≡ false → a ≡ b → ⊥
-new_differs ds a b some none same = clash (sym some ∙ ap (λ name. is_some (look ds name)) same ∙ none)
+new_differs ds a b some none same = absurd (true≢false (sym some ∙ ap (λ name. is_some (look ds name)) same ∙ none))
 
 -- the names of more globals differ, and all are declared
 record Further (file : Names) (gs : List GlobalVar) : Type 0 where
@@ -114,35 +112,25 @@ globals_differ items file sound = names_differ items file [] sound (record { dif
 
 -- ---- spelled
 
-named_one : (constant : Bool) (x : RawGlobal) → IsSpelled (name_of_global x).bytes → IsNamed (global constant x)
-named_one constant (g.Scalar name value) is = record { spelled = is.spelled; short = is.short }
-named_one constant (g.Array name words values) is = record { spelled = is.spelled; short = is.short }
-named_one constant (g.Open name values) is = record { spelled = is.spelled; short = is.short }
+abbrev pub HasShortName : GlobalVar → Type 0
+HasShortName x = IsShortName x.name
 
-named_all : (constant : Bool) (all : List RawGlobal) → GlobalsAreSpelled all → All IsNamed (map (global constant) all)
-named_all constant [] from = All-nil IsNamed
-named_all constant (x ∷ rest) from = All-cons IsNamed (global constant x) (map (global constant) rest) (named_one constant x from.0) (named_all constant rest from.1)
+named_all : (constant : Bool) (all : List RawGlobal) → GlobalsAreSpelled all → All HasShortName (map (global constant) all)
+named_all constant [] from = All-nil HasShortName
+named_all constant (x ∷ rest) from = All-cons HasShortName (global constant x) (map (global constant) rest) (subst IsShortName (sym (same_name constant x)) from.0) (named_all constant rest from.1)
 
-pub globals_named : (items : List RawItem) → ItemsFromSource items → All IsNamed (all_of globals_of items)
-globals_named [] from = All-nil IsNamed
+pub globals_named : (items : List RawItem) → ItemsFromSource items → All HasShortName (all_of globals_of items)
+globals_named [] from = All-nil HasShortName
 globals_named (x ∷ rest) from = by_kind x.kind from.0 (globals_named rest from.1)
   where
-    by_kind : (kind : RawItemKind) → ItemFromSource kind → All IsNamed (all_of globals_of rest) → All IsNamed (globals_of kind ++ all_of globals_of rest)
+    by_kind : (kind : RawItemKind) → ItemFromSource kind → All HasShortName (all_of globals_of rest) → All HasShortName (globals_of kind ++ all_of globals_of rest)
     by_kind (i.Globals ty all) from behind =
-        All-append IsNamed (map (global (is_constant ty.qualifiers)) all) (all_of globals_of rest) (named_all (is_constant ty.qualifiers) all from) behind
+        All-append HasShortName (map (global (is_constant ty.qualifiers)) all) (all_of globals_of rest) (named_all (is_constant ty.qualifiers) all from) behind
     by_kind (i.Registers int all) from behind = behind
     by_kind (i.Function result params body) from behind = behind
     by_kind (i.Proto result params) from behind = behind
 
 -- ---- lengths
-
-both_hold : (a b : Bool) → (a && b) ≡ true → (a ≡ true) × (b ≡ true)
-both_hold true true is = (refl, refl)
-both_hold true false is = clash (sym is)
-both_hold false b is = clash (sym is)
-
-is_above : (n : ℕ) → nat_lt 0 n ≡ true → 1 ≤ n
-is_above n is = grind (arith, nat_tests)
 
 is_not_none : (n : ℕ) → (n == 0) ≡ false → 1 ≤ n
 is_not_none n is = grind (arith, nat_tests)
@@ -157,25 +145,25 @@ record OpensWithin (length count : ℕ) : Type 0 where
 
 array_opens : (ds : List Declared) (name : RawName) (o : Option ℕ) (values : Option RawValues) → is_none o ≡ false → IsEmpty (length_fault name o) → IsEmpty (initial_faults ds name o values) →
     OpensWithin (unwrap_or o 0) (length (values_of values))
-array_opens ds name None values constant_length sound initial = clash constant_length
+array_opens ds name None values constant_length sound initial = absurd (true≢false constant_length)
 array_opens ds name (Some n) values constant_length sound initial = opened_by values initial
   where
     opened_by : (values : Option RawValues) → IsEmpty (initial_faults ds name (Some n) values) → OpensWithin n (length (values_of values))
-    opened_by None initial = record { some = is_above n (both_hold (nat_lt 0 n) (nat_lt n (2 ^ 31)) (holds_not (is_length n) kinds.BadLength name.at sound)).0; within = omega arith }
+    opened_by None initial = record { some = ltb-true 0 n (and_parts (nat_lt 0 n) (nat_lt n (2 ^ 31)) (holds_not (is_length n) kinds.BadLength name.at sound)).0; within = omega arith }
     opened_by (Some all) initial =
-        let bounds = both_hold (nat_lt 0 n) (nat_lt n (2 ^ 31)) (holds_not (is_length n) kinds.BadLength name.at sound) in
-        let few = at_most (room n) (length all.values) (fails (nat_lt (room n) (length all.values)) kinds.WrongCount name.at initial.0) in
-        record { some = is_above n bounds.0; within = omega (arith, few, room_of n bounds.1, map_length value_of all.values) }
+        let bounds = and_parts (nat_lt 0 n) (nat_lt n (2 ^ 31)) (holds_not (is_length n) kinds.BadLength name.at sound) in
+        let few = ltb-false (room n) (length all.values) (fails (nat_lt (room n) (length all.values)) kinds.WrongCount name.at initial.0) in
+        record { some = ltb-true 0 n bounds.0; within = omega (arith, few, room_of n bounds.1, length-map all.values value_of) }
 
 length_one : (ds : List Declared) (constant_words : Bool) (x : RawGlobal) → IsEmpty (global_faults ds x) → nodes_of_global x ≤ 65536 → HasLength (global constant_words x)
 length_one ds c (g.Scalar name None) sound few = record { some = omega arith; room = omega arith; scalar = λ is. refl }
 length_one ds c (g.Scalar name (Some value)) sound few = record { some = omega arith; room = omega arith; scalar = λ is. refl }
 length_one ds c (g.Array name words values) sound few =
     let opens = array_opens ds name (constant words.kind) values (fails (is_none (constant words.kind)) kinds.NotConstant words.at sound.0.0.1) sound.0.1 sound.1 in
-    record { some = opens.some; room = opens.within; scalar = λ is. clash is }
+    record { some = opens.some; room = opens.within; scalar = λ is. absurd (true≢false is) }
 length_one ds c (g.Open name values) sound few =
     let some = is_not_none (length values.values) (fails (length values.values == 0) kinds.BadLength name.at sound.0) in
-    record { some = omega arith; room = omega (arith, map_length value_of values.values); scalar = λ is. clash is }
+    record { some = omega arith; room = omega (arith, length-map values.values value_of); scalar = λ is. absurd (true≢false is) }
 
 lengths_all : (ds : List Declared) (c : Bool) (all : List RawGlobal) → IsEmpty (globals_faults ds all) → sum (map nodes_of_global all) ≤ 65536 → All HasLength (map (global c) all)
 lengths_all ds c [] sound few = All-nil HasLength

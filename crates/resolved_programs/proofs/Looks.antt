@@ -1,5 +1,6 @@
 -- In the names of a file the first declaration of a name counts, and stays.
 use Rattle.std.proofs.Common.{◌≡◌, refl, sym, ◌∙◌, ap, ℕ, Bool, true, false, cond, List, [], ◌∷◌, ◌++◌, length, Option, Some, None}
+use Rattle.std.proofs.lemmas.Bool.{true≢false, false≢true}
 use Rattle.std.specs.Prelude.{is_some, if◌then◌else◌}
 use Rattle.std.specs.Str.{bytes_eq}
 use Rattle.std.proofs.lemmas.Slice.Eq.{bytes_eq-Decides}
@@ -24,9 +25,6 @@ same_bytes a b = (bytes_eq-Decides a b).0
 pub equal_bytes : (a b : List ℕ) → a ≡ b → bytes_eq a b ≡ true
 equal_bytes a b = (bytes_eq-Decides a b).1
 
-clash : {A : Type 0} → true ≡ false → A
-clash is = absurd cc
-
 or_assoc : (a b c : Option Binding) → or_hidden a (or_hidden b c) ≡ or_hidden (or_hidden a b) c
 or_assoc a b None = refl
 or_assoc a b (Some c) = refl
@@ -47,7 +45,7 @@ stays name what ds other b found = chosen (is_some (look ds name.bytes)) refl
   where
     apart : (same : Bool) → bytes_eq other name.bytes ≡ same → is_some (look ds name.bytes) ≡ false → or_hidden (look ds other) (cond same (Some (record { place = length ds; meaning = what })) None) ≡ Some b
     apart false is none = found
-    apart true is none = clash (sym (ap is_some (sym (ap (look ds) (same_bytes other name.bytes is)) ∙ found)) ∙ none)
+    apart true is none = absurd (true≢false (sym (ap is_some (sym (ap (look ds) (same_bytes other name.bytes is)) ∙ found)) ∙ none))
 
     chosen : (t : Bool) → is_some (look ds name.bytes) ≡ t → look (if t then ds else declare name.bytes what ds) other ≡ Some b
     chosen true is = found
@@ -60,11 +58,11 @@ declared_first name what ds none = chosen (is_some (look ds name.bytes)) refl
   where
     absent : (o : Option Binding) → is_some o ≡ false → (same : Bool) → same ≡ true → or_hidden o (cond same (Some (record { place = length ds; meaning = what })) None) ≡ Some (record { place = length ds; meaning = what })
     absent None none true is = refl
-    absent None none false is = clash (sym is)
-    absent (Some b) none same is = clash none
+    absent None none false is = absurd (false≢true is)
+    absent (Some b) none same is = absurd (true≢false none)
 
     chosen : (t : Bool) → is_some (look ds name.bytes) ≡ t → look (if t then ds else declare name.bytes what ds) name.bytes ≡ Some (record { place = length ds; meaning = what })
-    chosen true is = clash (sym is ∙ none)
+    chosen true is = absurd (true≢false (sym is ∙ none))
     chosen false is =
         look_behind ds (record { name = name.bytes; binding = record { place = length ds; meaning = what }; hidden = look ds name.bytes }) name.bytes
         ∙ absent (look ds name.bytes) none (bytes_eq name.bytes name.bytes) (equal_bytes name.bytes name.bytes refl)

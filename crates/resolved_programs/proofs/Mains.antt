@@ -1,6 +1,7 @@
 -- `main` stands for a function without parameters.
-use Rattle.std.proofs.Common.{◌≡◌, refl, sym, ◌∙◌, ap, subst, ℕ, Bool, true, false, List, [], ◌∷◌, length, Some, ◌⊎◌, inl, inr}
-use Rattle.std.specs.Prelude.{codes, is_some, ◌==◌, ◌&&◌, ◌||◌}
+use Rattle.std.proofs.Common.{◌≡◌, sym, ◌∙◌, ap, subst, ℕ, Bool, true, false, List, [], ◌∷◌, length, Some, ◌⊎◌, inl, inr}
+use Rattle.std.proofs.lemmas.Bool.{or_cases, and_parts, eqb-true}
+use Rattle.std.specs.Prelude.{codes, is_some, ◌==◌}
 use Rattle.std.specs.Str.{bytes_eq}
 use Rattle.std.proofs.lemmas.Slice.Eq.{bytes_eq-Decides}
 use Rattle.raw_tree.specs.declared.tree.RawItem.{RawItem}
@@ -17,7 +18,7 @@ use Rattle.name_faults.specs.Items.{Names, enter, enter_all, name_of_head, has_v
 use Rattle.typed_programs.specs.Expressions.{function_number}
 use Rattle.typed_programs.specs.Items.{main_of}
 use Rattle.checked_programs.specs.Fits.{Known, HasFunction}
-use Rattle.resolved_programs.proofs.NoFaults.{IsEmpty, fails, equal}
+use Rattle.resolved_programs.proofs.NoFaults.{IsEmpty, fails}
 use Rattle.resolved_programs.proofs.Meanings.{NamesFit, AnyFits, looked_fits}
 use Rattle.resolved_programs.proofs.Looks.{declared_first, stays_in_items}
 
@@ -28,23 +29,14 @@ pub record StandsForMain (ds : List Declared) : Type 0 where
   pub place : ℕ
   pub found : look ds (codes "main") ≡ Some (record { place = place; meaning = means.Function number value 0 })
 
-both_hold : (a b : Bool) → (a && b) ≡ true → (a ≡ true) × (b ≡ true)
-both_hold true true is = (refl, refl)
-both_hold true false is = absurd (let clash : false ≡ true = is in cc)
-both_hold false b is = absurd (let clash : false ≡ true = is in cc)
-
-either_holds : (a b : Bool) → (a || b) ≡ true → (a ≡ true) ⊎ (b ≡ true)
-either_holds true b is = inl refl
-either_holds false b is = inr is
-
 declared_main : (kind : RawItemKind) (rest : List RawItem) (file : Names) → is_main kind ≡ true → IsEmpty (again kind file) → StandsForMain (enter_all rest (enter kind file)).declared
 declared_main (i.Globals ty all) rest file is sound = absurd (let clash : false ≡ true = is in cc)
 declared_main (i.Registers int all) rest file is sound = absurd (let clash : false ≡ true = is in cc)
 declared_main (i.Proto result params) rest file is sound = absurd (let clash : false ≡ true = is in cc)
 declared_main (i.Function result params body) rest file is sound =
-    let holds = both_hold (bytes_eq (name_of_head result).bytes (codes "main")) (length (params_of params) == 0) is in
+    let holds = and_parts (bytes_eq (name_of_head result).bytes (codes "main")) (length (params_of params) == 0) is in
     let named : (name_of_head result).bytes ≡ codes "main" = (bytes_eq-Decides (name_of_head result).bytes (codes "main")).0 holds.0 in
-    let none : length (params_of params) ≡ 0 = equal (length (params_of params)) 0 holds.1 in
+    let none : length (params_of params) ≡ 0 = eqb-true (length (params_of params)) 0 holds.1 in
     let new = fails (is_some (look file.declared (name_of_head result).bytes)) kinds.Double (name_of_head result).at sound in
     let here = declared_first (name_of_head result) (means.Function (length file.functions) (has_value result) (length (params_of params))) file.declared new in
     let kept = stays_in_items rest (enter (i.Function result params body) file) (name_of_head result).bytes
@@ -65,7 +57,7 @@ main_chosen x rest file (inr later) sound behind = behind later
 pub main_among : (items : List RawItem) (file : Names) → has_main items ≡ true → IsEmpty (again_all items file) → StandsForMain (enter_all items file).declared
 main_among [] file is sound = absurd (let clash : false ≡ true = is in cc)
 main_among (x ∷ rest) file is sound =
-    main_chosen x rest file (either_holds (is_main x.kind) (has_main rest) is) sound.0 (λ later. main_among rest (enter x.kind file) later sound.1)
+    main_chosen x rest file (or_cases (is_main x.kind) (has_main rest) is) sound.0 (λ later. main_among rest (enter x.kind file) later sound.1)
 
 pub main_fits : (p : Program) (k : Known) (ds : List Declared) → NamesFit p k ds → StandsForMain ds → HasFunction p (main_of ds) 0
 main_fits p k ds names main =

@@ -1,5 +1,6 @@
 -- What names stand for, where each thing that is declared is there.
 use Rattle.std.proofs.Common.{◌≡◌, subst, ℕ, Bool, true, false, cond, List, [], ◌∷◌, Option, Some, None}
+use Rattle.std.proofs.lemmas.Bool.{eqb-true}
 use Rattle.std.specs.Prelude.{◌==◌}
 use Rattle.std.specs.Str.{bytes_eq}
 use Rattle.raw_tree.specs.declared.tree.RawName.{RawName}
@@ -13,7 +14,7 @@ use Rattle.name_scopes.specs.Scope.{look, or_hidden}
 use Rattle.name_faults.specs.Expressions.{meaning, meaning_of, variable_fault, array_fault, sum_fault, register_fault, call_fault}
 use Rattle.typed_programs.specs.Expressions.{number, variable, array_number, function_number, register_number}
 use Rattle.checked_programs.specs.Fits.{Known, HasGlobal, HasRegister, HasFunction, SpotFits, SummedFits, PlaceFits}
-use Rattle.resolved_programs.proofs.NoFaults.{IsEmpty, holds_not, equal}
+use Rattle.resolved_programs.proofs.NoFaults.{IsEmpty, holds_not}
 
 module _ (p : Program) (known : Known) where
   -- the thing is there, and a variable is known
@@ -98,6 +99,6 @@ module _ (p : Program) (known : Known) where
   call_fits true count name (Some (means.Local slot constant)) fit sound = absurd sound
   call_fits false count name (Some (means.Local slot constant)) fit sound = absurd sound
   call_fits true count name (Some (means.Function n value params)) fit sound =
-      subst (λ k. HasFunction p (number n) k) (equal params count (holds_not (params == count) kinds.WrongCount name.at sound.0)) fit
+      subst (λ k. HasFunction p (number n) k) (eqb-true params count (holds_not (params == count) kinds.WrongCount name.at sound.0)) fit
   call_fits false count name (Some (means.Function n value params)) fit sound =
-      subst (λ k. HasFunction p (number n) k) (equal params count (holds_not (params == count) kinds.WrongCount name.at sound)) fit
+      subst (λ k. HasFunction p (number n) k) (eqb-true params count (holds_not (params == count) kinds.WrongCount name.at sound)) fit

@@ -1,7 +1,6 @@
 -- Where nothing is broken.
 use Rattle.std.proofs.Common.{◌≡◌, refl, arith, ℕ, zero, suc, ◌≤◌, Bool, true, false, List, [], ◌∷◌, length, Option, Some, None, inl, inr}
-use Rattle.std.specs.Prelude.{not, nat_lt, ◌==◌, slice_get}
-use Rattle.std.proofs.lemmas.Bool.Decides.{nat_tests}
+use Rattle.std.specs.Prelude.{not, slice_get}
 use Rattle.xmt_base.specs.declared.values.Place.{Place}
 use Rattle.name_scopes.specs.declared.fault.Which.{Which}
 use Rattle.name_scopes.specs.declared.fault.NameKind.{NameKind}
@@ -25,15 +24,6 @@ fails false what place empty = refl
 pub holds_not : (holds : Bool) (what : NameKind) (place : Place) → IsEmpty (when (not holds) what place) → holds ≡ true
 holds_not true what place empty = refl
 holds_not false what place empty = absurd empty
-
-pub equal : (a b : ℕ) → (a == b) ≡ true → a ≡ b
-equal a b is = grind (arith, nat_tests)
-
-pub at_most : (limit n : ℕ) → nat_lt limit n ≡ false → n ≤ limit
-at_most limit n is = grind (arith, nat_tests)
-
-pub not_above : (limit n : ℕ) → n ≤ limit → nat_lt limit n ≡ false
-not_above limit n less = grind (arith, nat_tests)
 
 pub few : (limit : ℕ) (places : List Place) (which : Which) → IsEmpty (over limit which places) → length places ≤ limit
 few limit places which empty = short limit places (slice_get places limit) refl empty

@@ -1,5 +1,6 @@
 -- A program has at most as many nodes as are counted in its tree.
 use Rattle.std.proofs.Common.{◌≡◌, refl, arith, ℕ, suc, ◌+◌, ◌≤◌, Bool, List, [], ◌∷◌, ◌++◌, length, length-append, Some, None}
+use Rattle.std.proofs.lemmas.List.{length-map}
 use Rattle.std.specs.Prelude.{sum, sum_by, map}
 use Rattle.std.proofs.lemmas.List.Sums.{sum_by-cons, sum_by-append}
 use Rattle.raw_tree.specs.declared.tree.RawParam.{RawParam}
@@ -20,7 +21,6 @@ use Rattle.typed_programs.specs.Items.{value_of, global, register, at_start, fun
 use Rattle.tree_measures.specs.Nodes.{function_nodes}
 use Rattle.resolved_programs.specs.Branches.{ListHasPlainBranches, ItemHasPlainBranches, ItemsHavePlainBranches}
 use Rattle.resolved_programs.proofs.StatementNodes.{sum_more, body_counted}
-use Rattle.resolved_programs.proofs.Reached.{map_length}
 
 abbrev pub global_nodes : GlobalVar → ℕ
 global_nodes x = 1 + length x.opening
@@ -29,8 +29,8 @@ one_global : (constant : Bool) (x : RawGlobal) → global_nodes (global constant
 one_global constant (g.Scalar name None) = refl
 one_global constant (g.Scalar name (Some value)) = refl
 one_global constant (g.Array name words None) = refl
-one_global constant (g.Array name words (Some values)) = omega (arith, map_length value_of values.values)
-one_global constant (g.Open name values) = omega (arith, map_length value_of values.values)
+one_global constant (g.Array name words (Some values)) = omega (arith, length-map values.values value_of)
+one_global constant (g.Open name values) = omega (arith, length-map values.values value_of)
 
 all_globals : (constant : Bool) (all : List RawGlobal) → sum_by global_nodes (map (global constant) all) ≡ sum (map nodes_of_global all)
 all_globals constant [] = refl
@@ -50,7 +50,7 @@ one_function ds result params body plain = omega (arith, body_counted body (at_s
 
 one_item : (ds : List Declared) (kind : RawItemKind) → ItemHasPlainBranches kind → parts_nodes (globals_of kind) (registers_of kind) (functions_of ds kind) ≤ nodes_of_item kind
 one_item ds (i.Globals ty all) plain = omega (arith, all_globals (is_constant ty.qualifiers) all)
-one_item ds (i.Registers int all) plain = omega (arith, map_length register all)
+one_item ds (i.Registers int all) plain = omega (arith, length-map all register)
 one_item ds (i.Function result params body) plain =
     omega (arith, sum_by-cons function_nodes (function ds result (params_of params) body) [], one_function ds result (params_of params) body plain)
 one_item ds (i.Proto result params) plain = omega arith

@@ -1,5 +1,6 @@
 -- The law on resolved programs.
 use Rattle.std.proofs.Common.{refl, sym, subst, arith, ◌≤◌, false, [], length}
+use Rattle.std.proofs.lemmas.Bool.{ltb-false}
 use Rattle.std.specs.Prelude.{All, nat_lt}
 use Rattle.std.proofs.lemmas.List.Elements.{All-weaker}
 use Rattle.raw_tree.specs.declared.tree.RawProgram.{RawProgram}
@@ -12,12 +13,11 @@ use Rattle.spawn_check.specs.Table.{MeetsNone}
 use Rattle.typed_programs.specs.Items.{names_of_file, program}
 use Rattle.checked_programs.specs.Fits.{Known, BodyFits}
 use Rattle.checked_programs.specs.Declares.{DeclaresOnce}
-use Rattle.checked_programs.specs.Limits.{FunctionIsWithinLimits, IsWithinLimits}
+use Rattle.checked_programs.specs.Limits.{FunctionIsWithinLimits, IsWithinLimits, HasFewNodes}
 use Rattle.checked_programs.specs.Checked.{IsChecked}
 use Rattle.resolved_programs.specs.FromSource.{IsFromSource}
-use Rattle.resolved_programs.specs.Branches.{TreeHasPlainBranches}
-use Rattle.resolved_programs.specs.Law.{ResolvedProgramsAreChecked, ResolvedProgramsKeepLimits}
-use Rattle.resolved_programs.proofs.NoFaults.{IsEmpty, nothing_among, few, fails, holds_not, at_most}
+use Rattle.resolved_programs.specs.Law.{ResolvedProgramsAreChecked, ResolvedProgramsKeepLimits, ResolvedProgramsHaveFewNodes}
+use Rattle.resolved_programs.proofs.NoFaults.{IsEmpty, nothing_among, few, fails, holds_not}
 use Rattle.resolved_programs.proofs.Meanings.{NamesFit}
 use Rattle.resolved_programs.proofs.Reached.{Reached, reached_end, HasCounts, counts_at_end}
 use Rattle.resolved_programs.proofs.FileNames.{items_fit}
@@ -46,7 +46,7 @@ module _ (tree : RawProgram) where
         globals = omega (arith, counts.globals, few 4096 (enter_all tree.items no_names).globals which.Globals sound.1.1.0.0);
         registers = omega (arith, counts.registers, few 8 (enter_all tree.items no_names).registers which.Registers sound.1.1.0.1.1);
         functions = omega (arith, counts.functions, few 1000 (enter_all tree.items no_names).functions which.Functions sound.1.1.0.1.0);
-        nodes = at_most 65536 (nodes_of_items tree.items) (fails (nat_lt 65536 (nodes_of_items tree.items)) (kinds.TooMany which.Nodes) tree.end sound.1.1.1.0);
+        nodes = ltb-false 65536 (nodes_of_items tree.items) (fails (nat_lt 65536 (nodes_of_items tree.items)) (kinds.TooMany which.Nodes) tree.end sound.1.1.1.0);
       }
 
   names_are_there : IsEmpty (program_faults tree) → (k : Known) → NamesFit (program tree) k (names_of_file tree)
@@ -72,15 +72,14 @@ module _ (tree : RawProgram) where
         blocks = blocks;
       }
 
-  is_within_limits : IsFromSource tree → TreeHasPlainBranches tree → IsEmpty (program_faults tree) → IsWithinLimits (program tree)
-  is_within_limits from plain sound =
+  is_within_limits : IsFromSource tree → IsEmpty (program_faults tree) → IsWithinLimits (program tree)
+  is_within_limits from sound =
       let all = are_few sound in
       record {
         globals = all.globals;
         registers = all.registers;
         functions = all.functions;
         each_function = All-weaker (IsSound (program tree)) FunctionIsWithinLimits (λ f is. is.limits) (program tree).functions (all_sound from sound);
-        nodes = omega (arith, all_items (names_of_file tree) tree.items plain, all.nodes);
       }
 
 pub resolved_programs_are_checked : ResolvedProgramsAreChecked
@@ -89,5 +88,11 @@ resolved_programs_are_checked tree p from resolves blocks =
     subst IsChecked (sym resolves.same) made
 
 pub resolved_programs_keep_limits : ResolvedProgramsKeepLimits
-resolved_programs_keep_limits tree p from plain resolves =
-    subst IsWithinLimits (sym resolves.same) (is_within_limits tree from plain (nothing_among (program_faults tree) resolves.sound))
+resolved_programs_keep_limits tree p from resolves =
+    subst IsWithinLimits (sym resolves.same) (is_within_limits tree from (nothing_among (program_faults tree) resolves.sound))
+
+pub resolved_programs_have_few_nodes : ResolvedProgramsHaveFewNodes
+resolved_programs_have_few_nodes tree p plain resolves =
+    let few = are_few tree (nothing_among (program_faults tree) resolves.sound) in
+    let made : HasFewNodes (program tree) = omega (arith, all_items (names_of_file tree) tree.items plain, few.nodes) in
+    subst HasFewNodes (sym resolves.same) made

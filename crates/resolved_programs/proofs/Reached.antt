@@ -1,5 +1,6 @@
 -- The globals, registers and functions of a program are numbered in the order of their declarations in the file.
-use Rattle.std.proofs.Common.{◌≡◌, refl, sym, ◌∙◌, ap, arith, ℕ, suc, ◌+◌, Bool, List, [], ◌∷◌, ◌++◌, length, length-append, append_assoc}
+use Rattle.std.proofs.Common.{◌≡◌, sym, ◌∙◌, ap, arith, ℕ, ◌+◌, Bool, List, [], ◌∷◌, ◌++◌, length, length-append, append_assoc}
+use Rattle.std.proofs.lemmas.List.{length-map}
 use Rattle.std.specs.Prelude.{map}
 use Rattle.raw_tree.specs.declared.tree.RawGlobal.{RawGlobal}
 use Rattle.raw_tree.specs.declared.tree.RawRegister.{RawRegister}
@@ -36,10 +37,6 @@ counted_registers (r ∷ rest) file =
     let one = length-append file.registers (r.name.at ∷ []) in
     record { globals = behind.globals; registers = omega (arith, behind.registers, one); functions = behind.functions }
 
-pub map_length : {X Y : Type 0} (f : X → Y) (xs : List X) → length (map f xs) ≡ length xs
-map_length f [] = refl
-map_length f (x ∷ xs) = ap (λ n. suc n) (map_length f xs)
-
 module _ (p : Program) (ds : List Declared) where
   -- what stands in the program before these items is what the file has declared so far
   pub record Reached (rest : List RawItem) (file : Names) : Type 0 where
@@ -68,7 +65,7 @@ module _ (p : Program) (ds : List Declared) where
             globals = globals ∙ sym (append_assoc reached.gs more (all_of globals_of rest));
             registers = registers;
             functions = functions;
-            at_globals = omega (arith, counted.globals, reached.at_globals, length-append reached.gs more, map_length (global (is_constant ty.qualifiers)) all);
+            at_globals = omega (arith, counted.globals, reached.at_globals, length-append reached.gs more, length-map all (global (is_constant ty.qualifiers)));
             at_registers = omega (arith, counted.registers, reached.at_registers);
             at_functions = omega (arith, counted.functions, reached.at_functions);
           }
@@ -83,7 +80,7 @@ module _ (p : Program) (ds : List Declared) where
             registers = registers ∙ sym (append_assoc reached.rs more (all_of registers_of rest));
             functions = functions;
             at_globals = omega (arith, counted.globals, reached.at_globals);
-            at_registers = omega (arith, counted.registers, reached.at_registers, length-append reached.rs more, map_length register all);
+            at_registers = omega (arith, counted.registers, reached.at_registers, length-append reached.rs more, length-map all register);
             at_functions = omega (arith, counted.functions, reached.at_functions);
           }
       by_kind (i.Function result params body) globals registers functions =

@@ -1,5 +1,6 @@
 -- In no statement of a function that breaks no rule more than 256 values wait.
 use Rattle.std.proofs.Common.{◌≡◌, refl, ◌∙◌, arith, ℕ, ◌+◌, ◌≤◌, Bool, true, false, List, [], ◌∷◌, ◌++◌, length, Option, Some, None}
+use Rattle.std.proofs.lemmas.Bool.{ltb-false, le-ltb}
 use Rattle.std.specs.Prelude.{max, nat_lt, ◌||◌}
 use Rattle.xmt_base.specs.declared.values.Place.{Place}
 use Rattle.raw_tree.specs.declared.tree.RawExpr.{RawExpr}
@@ -30,7 +31,7 @@ use Rattle.typed_programs.specs.Expressions.{typed_spot, expression, expressions
 use Rattle.typed_programs.specs.Statements.{declares, first_of, among, typed, typed_inner, typed_held, typed_row, typed_all}
 use Rattle.tree_measures.specs.Waiting.{waiting_in, waiting_at, waiting_behind_list, waiting_for_sum}
 use Rattle.checked_programs.specs.Limits.{waiting_in_option, most_waiting}
-use Rattle.resolved_programs.proofs.NoFaults.{IsEmpty, fails, at_most, not_above}
+use Rattle.resolved_programs.proofs.NoFaults.{IsEmpty, fails}
 use Rattle.resolved_programs.proofs.Waiting.{typed_waits, read_waits}
 
 abbrev is_long : StmtKind → Bool
@@ -67,7 +68,7 @@ lists_short (x ∷ front) rest ahead behind = neither (first (some_statement is_
 -- ---- expressions
 
 few_wait : (n : ℕ) (at : Place) → IsEmpty (waits n at) → n ≤ 256
-few_wait n at sound = at_most 256 n (fails (nat_lt 256 n) (kinds.TooMany which.Waiting) at sound)
+few_wait n at sound = ltb-false 256 n (fails (nat_lt 256 n) (kinds.TooMany which.Waiting) at sound)
 
 whole_waits : (ds : List Declared) (wanted : Bool) (a : RawExpr) → IsEmpty (whole ds wanted a) → waiting_in (expression ds a).kind ≤ 256
 whole_waits ds wanted a sound = omega (arith, typed_waits ds a.at a.kind, few_wait (waiting a.kind) a.at sound.1)
@@ -93,7 +94,7 @@ sum_waits (spot.Local slot) = omega arith
 -- ---- statements
 
 short_value : (n : ℕ) → n ≤ 256 → (nat_lt 256 n || false) ≡ false
-short_value n few = neither (not_above 256 n few) refl
+short_value n few = neither (le-ltb 256 n few) refl
 
 declares_short : (start : ℕ) (constant : Bool) (locals : List RawLocal) (e : Env) → IsEmpty (locals_faults start constant locals e) → AreShort (declares constant locals e)
 declares_short start constant [] e sound = refl
@@ -111,14 +112,14 @@ OtherIsShort (Some x) = IsShort x.kind
 
 if_short : (test : Expr) (body : Stmt) (other : Option Stmt) → waiting_in test.kind ≤ 256 → IsShort body.kind → OtherIsShort other → IsShort (s.If test body other)
 unfolding opened OtherIsShort
-if_short test body None few then_short else_short = neither (not_above 256 (waiting_in test.kind) few) (neither (neither then_short refl) refl)
-if_short test body (Some x) few then_short else_short = neither (not_above 256 (waiting_in test.kind) few) (neither (neither then_short refl) (neither else_short refl))
+if_short test body None few then_short else_short = neither (le-ltb 256 (waiting_in test.kind) few) (neither (neither then_short refl) refl)
+if_short test body (Some x) few then_short else_short = neither (le-ltb 256 (waiting_in test.kind) few) (neither (neither then_short refl) (neither else_short refl))
 
 for_short : (first : List Stmt) (test third : Option Expr) (body : Stmt) → AreShort first → waiting_in_option test ≤ 256 → waiting_in_option third ≤ 256 → IsShort body.kind →
     IsShort (s.For first test third body)
 unfolding opened
 for_short first test third body begins_short test_few third_few body_short =
-    neither (not_above 256 (max (waiting_in_option test) (waiting_in_option third)) (omega arith)) (neither (rows_short first begins_short) (neither body_short refl))
+    neither (le-ltb 256 (max (waiting_in_option test) (waiting_in_option third)) (omega arith)) (neither (rows_short first begins_short) (neither body_short refl))
 
 module _ (value : Bool) where
   among_short : (start : ℕ) (at : Place) (kind : RawStmtKind) (e : Env) (x : Stmt) → IsEmpty (statement_faults value start at kind e) → IsShort x.kind → AreShort (among kind e x)
@@ -137,9 +138,9 @@ module _ (value : Bool) where
         if_short (expression e.declared test) (typed_inner body e) (typed_held other (after_inner body e)) (whole_waits e.declared true test sound.0) (inner_short body e sound.1.0)
         (held_short other (after_inner body e) sound.1.1)
     statement_short start at (raw.While' test shape body) e sound =
-        neither (not_above 256 (waiting_in (expression e.declared test).kind) (whole_waits e.declared true test sound.0)) (neither (inner_short body e sound.1) refl)
+        neither (le-ltb 256 (waiting_in (expression e.declared test).kind) (whole_waits e.declared true test sound.0)) (neither (inner_short body e sound.1) refl)
     statement_short start at (raw.Do' shape body test) e sound =
-        neither (not_above 256 (waiting_in (expression e.declared test).kind) (whole_waits e.declared true test sound.1)) (neither (inner_short body e sound.0) refl)
+        neither (le-ltb 256 (waiting_in (expression e.declared test).kind) (whole_waits e.declared true test sound.1)) (neither (inner_short body e sound.0) refl)
     statement_short start at (raw.For' begin test third shape body) e sound =
         for_short (first_of begin e) (option (after_first begin e).declared test) (option (after_first begin e).declared third) (typed_inner body (after_first begin e))
         (first_short (length e.declared) begin e sound.0) (option_waits (after_first begin e).declared true test sound.1.0.0) (option_waits (after_first begin e).declared false third sound.1.0.1)
@@ -149,7 +150,7 @@ module _ (value : Bool) where
     statement_short start at (raw.Return v) e sound = short_value (waiting_in_option (option e.declared v)) (return_waits e.declared value at v sound)
     statement_short start at (raw.Spawn' low high shape body) e sound =
         let few = few_wait (max (waiting low.kind) (1 + waiting high.kind)) at sound.0.1 in
-        neither (not_above 256 (max 1 (max (waiting_in (expression e.declared low).kind) (1 + waiting_in (expression e.declared high).kind)))
+        neither (le-ltb 256 (max 1 (max (waiting_in (expression e.declared low).kind) (1 + waiting_in (expression e.declared high).kind)))
         (omega (arith, few, typed_waits e.declared low.at low.kind, typed_waits e.declared high.at high.kind))) (rows_short (typed_row body e) (row_short (length e.declared) body e sound.1))
     statement_short start at (raw.Ps v r) e sound = refl
     statement_short start at (raw.Psm v to) e sound =

@@ -1,7 +1,8 @@
 -- The typed statements of those that break no rule name what is there, and use each variable where it is known.
-use Rattle.std.proofs.Common.{◌≡◌, refl, sym, ◌∙◌, ap, subst, arith, ℕ, suc, ◌≤◌, Bool, true, false, List, [], ◌∷◌, ◌++◌, length, length-append, Option, Some, None}
-use Rattle.std.specs.Prelude.{map, not, ◌==◌, ◌||◌, if◌then◌else◌}
-use Rattle.std.proofs.lemmas.Bool.Decides.{nat_tests}
+use Rattle.std.proofs.Common.{◌≡◌, refl, sym, ◌∙◌, subst, arith, ℕ, ◌≤◌, Bool, true, false, List, [], ◌∷◌, ◌++◌, length, length-append, Option, Some, None}
+use Rattle.std.proofs.lemmas.Bool.{or_left, or_right, eqb-true, eq-eqb}
+use Rattle.std.proofs.lemmas.List.{length-map}
+use Rattle.std.specs.Prelude.{map, not, ◌==◌, if◌then◌else◌}
 use Rattle.xmt_base.specs.declared.values.Place.{Place}
 use Rattle.xmt_base.specs.Format.{IsFormat, has_directives, directives}
 use Rattle.raw_tree.specs.declared.tree.RawName.{RawName}
@@ -34,25 +35,10 @@ use Rattle.typed_programs.specs.Expressions.{number, typed_spot, expression, exp
 use Rattle.typed_programs.specs.Statements.{declares, first_of, among, typed, typed_inner, typed_held, typed_row, pieces, typed_all}
 use Rattle.checked_programs.specs.Fits.{Known, behind, behind_row, behind_list, ExpressionFits, OptionFits, ValuesFit, PlaceFits, StatementFits, RowsFit, ListFits}
 use Rattle.resolved_programs.specs.FromSource.{IsText, HasTexts, RowHasTexts, ElseHasTexts, ListHasTexts}
-use Rattle.resolved_programs.proofs.NoFaults.{IsEmpty, holds_not, equal, few}
+use Rattle.resolved_programs.proofs.NoFaults.{IsEmpty, holds_not, few}
 use Rattle.resolved_programs.proofs.Meanings.{MeaningFits, NamesFit, meaning_fits, summed_fits, place_fits, register_fits}
 use Rattle.resolved_programs.proofs.Expressions.{typed_fits, spot_fits, expressions_fit}
 use Rattle.resolved_programs.proofs.Growth.{grown_first, grown_inner, grown_held, grown_row, grown_all, grown_locals, goes_on, restored, same_inner, same_held}
-
-or_left : (a b : Bool) → a ≡ true → (a || b) ≡ true
-or_left true b is = refl
-or_left false b is = let clash : false ≡ true = is in cc
-
-or_right : (a b : Bool) → b ≡ true → (a || b) ≡ true
-or_right true b is = refl
-or_right false b is = is
-
-itself : (n : ℕ) → (n == n) ≡ true
-itself n = grind (arith, nat_tests)
-
-map_length : {X Y : Type 0} (f : X → Y) (xs : List X) → length (map f xs) ≡ length xs
-map_length f [] = refl
-map_length f (x ∷ xs) = ap (λ n. suc n) (map_length f xs)
 
 -- the text of a print has its directives right, and as many as values stand behind it
 record FormatFits (text : List ℕ) (count : ℕ) : Type 0 where
@@ -64,7 +50,7 @@ format_fits at text count sound = chosen (has_directives false text.bytes) refl 
   where
     chosen : (holds : Bool) → has_directives false text.bytes ≡ holds →
         IsEmpty (if holds then when (not (directives false text.bytes == count)) kinds.WrongCount at else one kinds.BadFormat text.at) → FormatFits text.bytes count
-    chosen true is sound = record { directed = is; counted = equal (directives false text.bytes) count (holds_not (directives false text.bytes == count) kinds.WrongCount at sound) }
+    chosen true is sound = record { directed = is; counted = eqb-true (directives false text.bytes) count (holds_not (directives false text.bytes == count) kinds.WrongCount at sound) }
     chosen false is sound = absurd sound
 
 module _ (p : Program) where
@@ -91,7 +77,7 @@ module _ (p : Program) where
   one_declared k constant name value e names =
       names_append (behind k (s.Declare (number (length e.variables)) value)) e.declared _
       (all_more_known k (behind k (s.Declare (number (length e.variables)) value)) (λ x known. or_left (k x) (x == number (length e.variables)) known) e.declared names)
-      (or_right (k (number (length e.variables))) (number (length e.variables) == number (length e.variables)) (itself (number (length e.variables))), tt)
+      (or_right (k (number (length e.variables))) (number (length e.variables) == number (length e.variables)) (eq-eqb (number (length e.variables)) (number (length e.variables)) refl), tt)
 
   declared_names : (k : Known) (constant : Bool) (locals : List RawLocal) (e : Env) → NamesFit p k e.declared →
       NamesFit p (behind_list k (declares constant locals e)) (declare_all constant locals e).declared
@@ -149,8 +135,8 @@ module _ (p : Program) where
   print_fits k ds names at text values is_text sound =
       let format = format_fits at text (length values) sound.0 in
       let short = few 16 (map place_of values) which.PrintValues sound.1.1.0 in (
-        record { printable = is_text.printable; directed = format.directed; values = omega (arith, format.counted, short, map_length place_of values); short = is_text.short },
-        format.counted ∙ sym (map_length (expression ds) values),
+        record { printable = is_text.printable; directed = format.directed; values = omega (arith, format.counted, short, length-map values place_of); short = is_text.short },
+        format.counted ∙ sym (length-map values (expression ds)),
         expressions_fit p k ds names values sound.1.0,
       )
 

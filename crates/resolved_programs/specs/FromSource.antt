@@ -1,6 +1,5 @@
 -- What every tree that is read from a source has beside the rules of names and types: names are spelled as names, and texts hold bytes that can be printed.
 use Rattle.std.specs.Prelude.{ℕ, ◌^◌, ◌<◌, All, List, [], ◌∷◌, length}
-use Rattle.xmt_base.specs.Name.{IsName}
 use Rattle.xmt_base.specs.Format.{IsPrintable}
 use Rattle.raw_tree.specs.declared.tree.RawStmt.{RawStmt}
 use Rattle.raw_tree.specs.declared.tree.RawStmtKind.{RawStmtKind, Row_of-RawStmt, end_of-RawStmt, more_of-RawStmt, Held-RawStmtKind-If-2, None', Some'}
@@ -11,6 +10,7 @@ use Rattle.raw_tree.specs.declared.tree.RawItemKind.{RawItemKind}
 use Rattle.raw_tree.specs.declared.tree.RawItemKind.TheVariants as i
 use Rattle.raw_tree.specs.declared.tree.RawProgram.{RawProgram}
 use Rattle.name_faults.specs.Items.{name_of_global}
+use Rattle.checked_programs.specs.Checked.{IsShortName}
 
 pub record IsText (text : List ℕ) : Type 0 where
   pub printable : All IsPrintable text
@@ -40,14 +40,9 @@ abbrev pub ListHasTexts : List RawStmt → Type 0
 ListHasTexts [] = Unit {0}
 ListHasTexts (x ∷ rest) = HasTexts x.kind × ListHasTexts rest
 
--- a name that is spelled as names are, of fewer than 2^32 bytes
-pub record IsSpelled (name : List ℕ) : Type 0 where
-  pub spelled : IsName name
-  pub short : length name < 2 ^ 32
-
 abbrev pub GlobalsAreSpelled : List RawGlobal → Type 0
 GlobalsAreSpelled [] = Unit {0}
-GlobalsAreSpelled (global ∷ rest) = IsSpelled (name_of_global global).bytes × GlobalsAreSpelled rest
+GlobalsAreSpelled (global ∷ rest) = IsShortName (name_of_global global).bytes × GlobalsAreSpelled rest
 
 abbrev pub ItemFromSource : RawItemKind → Type 0
 ItemFromSource (i.Globals ty all) = GlobalsAreSpelled all

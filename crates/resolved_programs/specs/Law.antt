@@ -4,7 +4,7 @@ use Rattle.source_meaning.specs.declared.tree.Program.{Program}
 use Rattle.spawn_check.specs.Table.{MeetsNone}
 use Rattle.typed_programs.specs.Items.{Resolves}
 use Rattle.checked_programs.specs.Checked.{IsChecked}
-use Rattle.checked_programs.specs.Limits.{IsWithinLimits}
+use Rattle.checked_programs.specs.Limits.{IsWithinLimits, HasFewNodes}
 use Rattle.resolved_programs.specs.FromSource.{IsFromSource}
 use Rattle.resolved_programs.specs.Branches.{TreeHasPlainBranches}
 
@@ -12,6 +12,10 @@ use Rattle.resolved_programs.specs.Branches.{TreeHasPlainBranches}
 abbrev pub ResolvedProgramsAreChecked : Type 0
 ResolvedProgramsAreChecked = (tree : RawProgram) (program : Program) → IsFromSource tree → Resolves tree program → MeetsNone program → IsChecked program
 
--- and it keeps to the limits, where no declaration is a branch
+-- and it keeps to the limits
 abbrev pub ResolvedProgramsKeepLimits : Type 0
-ResolvedProgramsKeepLimits = (tree : RawProgram) (program : Program) → IsFromSource tree → TreeHasPlainBranches tree → Resolves tree program → IsWithinLimits program
+ResolvedProgramsKeepLimits = (tree : RawProgram) (program : Program) → IsFromSource tree → Resolves tree program → IsWithinLimits program
+
+-- nor has it too many nodes, where no declaration is a branch
+abbrev pub ResolvedProgramsHaveFewNodes : Type 0
+ResolvedProgramsHaveFewNodes = (tree : RawProgram) (program : Program) → TreeHasPlainBranches tree → Resolves tree program → HasFewNodes program

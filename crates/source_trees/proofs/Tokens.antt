@@ -1,5 +1,6 @@
 -- The bytes of names and of texts among the tokens of a source.
 use Rattle.std.proofs.Common.{◌≡◌, refl, sym, ◌∙◌, ap, subst, arith, ℕ, suc, ◌+◌, ◌-◌, ◌^◌, ◌≤◌, Bool, true, false, List, [], ◌∷◌, ◌++◌, length, length-append, append_assoc, take, drop, Option, Some, None, ◌⊎◌, inl, inr}
+use Rattle.std.proofs.lemmas.Bool.{true≢false, false≢true, or_cases, and_parts, or_from, eqb-true, not-true}
 use Rattle.std.specs.Prelude.{All, map, not, ◌&&◌, ◌||◌, ◌==◌, nat_le, if◌then◌else◌, slice_range}
 use Rattle.std.specs.List.{list_all, list_any}
 use Rattle.std.specs.Str.{bytes_eq}
@@ -23,10 +24,8 @@ use Rattle.token_law.specs.Longest.{IsToken, AreTokens}
 use Rattle.token_law.proofs.Bytes.{word_byte}
 use Rattle.raw_tree.specs.Level.{Tokens, bytes_of}
 use Rattle.raw_tree.specs.Statements.{escaped, unescaped}
-use Rattle.resolved_programs.specs.FromSource.{IsText, IsSpelled}
-
-clash : {A : Type 0} → true ≡ false → A
-clash is = absurd cc
+use Rattle.checked_programs.specs.Checked.{IsShortName}
+use Rattle.resolved_programs.specs.FromSource.{IsText}
 
 -- ---- bytes in the middle of a source
 
@@ -62,16 +61,12 @@ turned : (a b : List ℕ) → bytes_eq a b ≡ false → bytes_eq b a ≡ false
 turned a b apart = chosen (bytes_eq b a) refl
   where
     chosen : (t : Bool) → bytes_eq b a ≡ t → bytes_eq b a ≡ false
-    chosen true is = clash (sym (equal_bytes a b (sym (same_bytes b a is))) ∙ apart)
+    chosen true is = absurd (true≢false (sym (equal_bytes a b (sym (same_bytes b a is))) ∙ apart))
     chosen false is = is
 
 both_tables : map (λ (e : List ℕ × Keyword). e.0) table.keywords ≡ keywords
 unfolding table.keywords
 both_tables = refl
-
-neither : (a b : Bool) → a ≡ false → b ≡ false → (a || b) ≡ false
-neither true b is other = is
-neither false b is other = other
 
 no_entry : (es : List (List ℕ × Keyword)) (w : List ℕ) → lookup es w ≡ None → list_any (λ key. bytes_eq key w) (map (λ (e : List ℕ × Keyword). e.0) es) ≡ false
 no_entry [] w is = refl
@@ -80,7 +75,7 @@ no_entry (e ∷ es) w is = chosen (bytes_eq w e.0) refl is (λ found. no_entry e
     chosen : (t : Bool) → bytes_eq w e.0 ≡ t → (if t then Some e.1 else lookup es w) ≡ None →
         (lookup es w ≡ None → list_any (λ key. bytes_eq key w) (map (λ (e : List ℕ × Keyword). e.0) es) ≡ false) → list_any (λ key. bytes_eq key w) (map (λ (e : List ℕ × Keyword). e.0) (e ∷ es)) ≡ false
     chosen true is found behind = absurd (let wrong : Some e.1 ≡ None = found in cc)
-    chosen false is found behind = neither (bytes_eq e.0 w) (list_any (λ key. bytes_eq key w) (map (λ (e : List ℕ × Keyword). e.0) es)) (turned w e.0 is) (behind found)
+    chosen false is found behind = or_from (bytes_eq e.0 w) (list_any (λ key. bytes_eq key w) (map (λ (e : List ℕ × Keyword). e.0) es)) (turned w e.0 is) (behind found)
 
 no_keyword : (w : List ℕ) → keyword_of w ≡ None → is_keyword w ≡ false
 unfolding keyword_of
@@ -116,47 +111,35 @@ parts (b ∷ w) is = both (is_in class.Word b) (list_all (is_in class.Word) w) (
   where
     both : (a more b others : Bool) → (a && more) ≡ true → a ≡ b → (more ≡ true → others ≡ true) → (b && others) ≡ true
     both true true b others is same behind = ap (λ t. t && others) (sym same) ∙ behind refl
-    both true false b others is same behind = clash (sym is)
-    both false more b others is same behind = clash (sym is)
+    both true false b others is same behind = absurd (false≢true is)
+    both false more b others is same behind = absurd (false≢true is)
 
 is_word_of : (w : List ℕ) → Spells Word w → is_word w ≡ true
 is_word_of w (word b rest start all) = both (is_name_start b) (list_all is_name_part rest) start (parts rest all)
   where
     both : (a b : Bool) → a ≡ true → b ≡ true → (a && b) ≡ true
     both true b is other = other
-    both false b is other = clash (sym is)
+    both false b is other = absurd (false≢true is)
 
 named : (defined : List (Text × ℕ)) (w : Text) → Spells Word w → kind_of_word defined w ≡ kind.Name → is_name w ≡ true
 named defined w spells is = both (is_word w) (is_keyword w) (is_word_of w spells) (no_keyword w (name_in_none defined w is))
   where
     both : (a b : Bool) → a ≡ true → b ≡ false → (a && not b) ≡ true
-    both a true is other = clash other
+    both a true is other = absurd (true≢false other)
     both a false is other = ap (λ t. t && true) is
 
 -- ---- texts
 
-or_cases : (a b : Bool) → (a || b) ≡ true → (a ≡ true) ⊎ (b ≡ true)
-or_cases true b is = inl refl
-or_cases false b is = inr is
-
-both_hold : (a b : Bool) → (a && b) ≡ true → (a ≡ true) × (b ≡ true)
-both_hold true true is = (refl, refl)
-both_hold true false is = clash (sym is)
-both_hold false b is = clash (sym is)
-
 in_range : (b : ℕ) → 32 ≤ b → b ≤ 126 → IsPrintable b
 in_range b low high = inr (inr (low, high))
-
-is_number : (a b : ℕ) → (a == b) ≡ true → a ≡ b
-is_number a b is = grind (arith, nat_tests)
 
 -- an escape stands for a tab, a newline, a quote or a `\`
 escaped_printable : (b : ℕ) → is_escape b ≡ true → IsPrintable (escaped b)
 escaped_printable b is = by_tests (b == 110) (b == 116) refl refl
   where
     last : ((b == 92) ≡ true) ⊎ ((b == 34) ≡ true) → IsPrintable b
-    last (inl same) = let is : b ≡ 92 = is_number b 92 same in in_range b (omega arith) (omega arith)
-    last (inr same) = let is : b ≡ 34 = is_number b 34 same in in_range b (omega arith) (omega arith)
+    last (inl same) = let is : b ≡ 92 = eqb-true b 92 same in in_range b (omega arith) (omega arith)
+    last (inr same) = let is : b ≡ 34 = eqb-true b 34 same in in_range b (omega arith) (omega arith)
 
     by_tests : (p q : Bool) → (b == 110) ≡ p → (b == 116) ≡ q → IsPrintable (if p then 10 else (if q then 9 else b))
     by_tests true q first second = inr (inl refl)
@@ -165,9 +148,9 @@ escaped_printable b is = by_tests (b == 110) (b == 116) refl refl
 
 byte_printable : (b : ℕ) → is_text_byte b ≡ true → IsPrintable b
 byte_printable b is =
-    let front = (both_hold (nat_le 32 b && nat_le b 126 && not (b == 34)) (not (b == 92)) is).0 in
-    let range = (both_hold (nat_le 32 b && nat_le b 126) (not (b == 34)) front).0 in
-    let bounds = both_hold (nat_le 32 b) (nat_le b 126) range in
+    let front = (and_parts (nat_le 32 b && nat_le b 126 && not (b == 34)) (not (b == 92)) is).0 in
+    let range = (and_parts (nat_le 32 b && nat_le b 126) (not (b == 34)) front).0 in
+    let bounds = and_parts (nat_le 32 b) (nat_le b 126) range in
     in_range b (low b bounds.0) (high b bounds.1)
   where
     low : (b : ℕ) → nat_le 32 b ≡ true → 32 ≤ b
@@ -177,11 +160,7 @@ byte_printable b is =
     high b is = grind (arith, nat_tests)
 
 no_escape : (b : ℕ) → is_text_byte b ≡ true → (b == 92) ≡ false
-no_escape b is = turned_not (b == 92) (both_hold (nat_le 32 b && nat_le b 126 && not (b == 34)) (not (b == 92)) is).1
-  where
-    turned_not : (t : Bool) → not t ≡ true → t ≡ false
-    turned_not true is = clash (sym is)
-    turned_not false is = refl
+no_escape b is = not-true (b == 92) (and_parts (nat_le 32 b && nat_le b 126 && not (b == 34)) (not (b == 92)) is).1
 
 text_printable : (w : Text) → IsTextBody w → All IsPrintable (unescaped false w)
 text_printable w none = All-nil IsPrintable
@@ -199,7 +178,7 @@ text_short w (escape b {w = rest} is body) = omega (arith, text_short rest body)
 -- ---- tokens
 
 pub record IsGood (source : List ℕ) (t : Token) : Type 0 where
-  pub name : t.kind ≡ kind.Name → IsSpelled (bytes_of source t)
+  pub name : t.kind ≡ kind.Name → IsShortName (bytes_of source t)
   pub text : t.kind ≡ kind.Text → IsText (unescaped false (slice_range source (t.start + 1) (t.end - 1)))
 
 abbrev pub AreGood : List ℕ → Tokens → Type 0
@@ -225,7 +204,7 @@ good_token : (source done w z : List ℕ) (s : Spot) (defined : List (Text × �
     Spells shape w → IsToken defined shape w k → IsGood source (token_at s (length w) k)
 good_token source done w z s defined shape k short is at spells (law.word _) =
     record {
-      name = λ named_so. subst IsSpelled (sym (own_bytes source done w z s (kind_of_word defined w) is at))
+      name = λ named_so. subst IsShortName (sym (own_bytes source done w z s (kind_of_word defined w) is at))
           (record { spelled = named defined w spells named_so; short = omega (arith, short_part source done w z is short) });
       text = λ text_so. absurd (no_text defined w text_so);
     }

@@ -11,7 +11,8 @@ use Rattle.raw_tree.specs.Items as items
 use Rattle.raw_tree.specs.Items.{SpellsGlobal, SpellsItem, SpellsItems}
 use Rattle.name_scopes.specs.Opened.{opened}
 use Rattle.name_faults.specs.Items.{name_of_global}
-use Rattle.resolved_programs.specs.FromSource.{IsSpelled, HasTexts, RowHasTexts, ListHasTexts, GlobalsAreSpelled, ItemFromSource, ItemsFromSource}
+use Rattle.checked_programs.specs.Checked.{IsShortName}
+use Rattle.resolved_programs.specs.FromSource.{HasTexts, RowHasTexts, ListHasTexts, GlobalsAreSpelled, ItemFromSource, ItemsFromSource}
 use Rattle.source_trees.specs.Law.{SpelledTreesAreFromSource}
 use Rattle.source_trees.proofs.Tokens.{AreGood, tokens_are_good}
 
@@ -58,7 +59,7 @@ module _ (source : List ℕ) where
     body_has body ts (stmts.one_declared {rest = more} {x = x} {y = y} spells behind) good = (tt, body_has more y behind (rest x y good))
     body_has body ts (stmts.one_more {b = b} {rest = more} {x = x} {y = y} spells behind) good = (statement_has b x spells (front x y good), body_has more y behind (rest x y good))
 
-  global_has : {n : ℕ} (g : RawGlobal) (ts : Tokens) → SpellsGlobal source n g ts → AreGood source ts → IsSpelled (name_of_global g).bytes
+  global_has : {n : ℕ} (g : RawGlobal) (ts : Tokens) → SpellsGlobal source n g ts → AreGood source ts → IsShortName (name_of_global g).bytes
   global_has g ts (items.scalar t named opening) good = good.0.name named
   global_has g ts (items.array t o c named opens length closes opening) good = good.0.name named
   global_has g ts (items.array_of_values t o c e named opens closes equal opening) good = good.0.name named

@@ -1,5 +1,5 @@
 -- The typed expression that a raw one stands for, by what the names in reach stand for. It means something where no rule is broken.
-use Rattle.std.specs.Prelude.{ℕ, ◌-◌, ◌^◌, min, Bool, true, false, List, [], ◌∷◌, map, Option, Some, None}
+use Rattle.std.specs.Prelude.{ℕ, ◌-◌, ◌^◌, min, Bool, true, false, List, [], ◌∷◌, map, Option, Some}
 use Rattle.std.specs.Option.{option_map}
 use Rattle.xmt_base.specs.declared.values.Place.{Place}
 use Rattle.xmt_lex.specs.declared.kinds.Mark.{Mark}

@@ -1,5 +1,5 @@
 -- The typed statements that raw ones stand for. A declaration of several names is a statement for each name, at that name.
-use Rattle.std.specs.Prelude.{ℕ, Bool, List, [], ◌∷◌, ◌++◌, length, Option, Some, None}
+use Rattle.std.specs.Prelude.{Bool, List, [], ◌∷◌, ◌++◌, length, Option, Some, None}
 use Rattle.xmt_base.specs.declared.values.Place.{Place}
 use Rattle.raw_tree.specs.declared.tree.RawExpr.{RawExpr}
 use Rattle.raw_tree.specs.declared.tree.RawLocal.{RawLocal}
@@ -13,7 +13,7 @@ use Rattle.source_meaning.specs.declared.tree.Stmt.{Stmt}
 use Rattle.source_meaning.specs.declared.tree.StmtKind.{StmtKind}
 use Rattle.source_meaning.specs.declared.tree.StmtKind.TheVariants as s
 use Rattle.name_scopes.specs.declared.scope.Declared.{Declared}
-use Rattle.name_scopes.specs.Locals.{Env, declare_local, left, is_constant}
+use Rattle.name_scopes.specs.Locals.{Env, declare_local, is_constant}
 use Rattle.name_faults.specs.Expressions.{meaning}
 use Rattle.name_faults.specs.Statements.{after, after_inner, after_first}
 use Rattle.typed_programs.specs.Expressions.{number, variable, register_number, typed_spot, expression, expressions, option}

@@ -1,5 +1,5 @@
 -- Loops that put what they make behind what is made.
-use Rattle.std.proofs.Common.{◌≡◌, ◌<◌, sym, ◌∙◌, ap, ℕ, suc, ◌+◌, List, [], ◌∷◌, ◌++◌, append_assoc, length, drop, drop-cons, get_or, add-one}
+use Rattle.std.proofs.Common.{◌≡◌, ◌<◌, sym, ◌∙◌, ap, ℕ, suc, ◌+◌, List, ◌∷◌, ◌++◌, append_assoc, length, drop, drop-cons, get_or, add-one}
 
 -- a loop over a list that also goes on from state to state
 pub built_turn : {X E Y : Type 0} (of_list : List X → E → List Y) (of_one : X → E → List Y) (step : X → E → E) →

@@ -1,5 +1,4 @@
 use Rattle.std.proofs.Common.{rules, ◌≡◌, ◌∙◌, ap, sym}
-use Rattle.source_meaning.specs.declared.tree.Expr.{Expr}
 use Rattle.source_meaning.specs.declared.tree.ExprKind.TheVariants as e
 use Rattle.typed_programs.specs.Expressions as spec
 use Rattle.name_faults.specs.Expressions.{meaning}
