@@ -40,8 +40,8 @@ fn none_marked() -> [bool; FUNCTIONS]
     [false; FUNCTIONS]
 }
 
-/// Marks the functions that reach what is sought.
-pub(crate) fn marks_of(functions: &[Function], what: Sought) -> [bool; FUNCTIONS]
+/// By number, which functions of a program have what is sought or reach it by calls. The numbers from that of the last function on are not marked.
+pub fn marks_of(functions: &[Function], what: Sought) -> [bool; FUNCTIONS]
     requires { length functions.now ≤ 1000 }
     ensures { AreExact functions.now what result }
 {

@@ -63,7 +63,7 @@ impl Around {
 
 /// What a function may reach by calls.
 #[derive(Clone, Copy)]
-pub(crate) enum Sought {
+pub enum Sought {
     /// A `printf`.
     Print,
     /// A `spawn`.
