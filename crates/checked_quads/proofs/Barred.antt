@@ -1,7 +1,7 @@
 -- Where nothing stands that is barred from a region.
 use Rattle.std.proofs.Common.{◌≡◌, refl, sym, ◌∙◌, ℕ, Bool, true, false, List, Some, ◌⊎◌, inl, inr}
 use Rattle.std.proofs.lemmas.Bool.{true≢false, false≢true, or_cases, eq-eqb, not-true}
-use Rattle.std.specs.Prelude.{◌||◌, slice_get}
+use Rattle.std.specs.Prelude.{slice_get}
 use Rattle.source_meaning.specs.declared.tree.ExprKind.{ExprKind}
 use Rattle.source_meaning.specs.declared.tree.ExprKind.TheVariants as expr
 use Rattle.source_meaning.specs.declared.tree.Stmt.{Stmt}
@@ -15,17 +15,14 @@ use Rattle.spawn_check.specs.Calls.{is_call, calls}
 use Rattle.spawn_check.proofs.Lifting.{Leads, leads_of_statement, leads_in_list}
 use Rattle.quad_code.specs.Known.{Region, Serial, Inner, InBlock}
 use Rattle.checked_quads.specs.Inner.{is_serial, Reaches, itself, by_call, AreInner}
-use Rattle.checked_quads.specs.Plain.{is_sum}
 use Rattle.checked_quads.proofs.Rules.{serial_in, is_outside, outside_in, is_barred}
 
 -- why a statement is barred
 data Cause : Type 0 where
-  sum : Cause
   print_or_spawn : Cause
   outside : (function : ℕ) → Cause
 
 abbrev test_of : Cause → StmtKind → Bool
-test_of sum = is_sum
 test_of print_or_spawn = is_serial
 test_of (outside g) = some_of_statement (is_call g)
 
@@ -33,7 +30,6 @@ abbrev IsOutside : (inner : (function : ℕ) → Bool) → Region → (g : ℕ) 
 IsOutside inner region g = (region ≡ Inner) × (inner g ≡ false)
 
 abbrev IsCause : (inner : (function : ℕ) → Bool) → Region → Cause → Type 0
-IsCause inner region sum = Unit {0}
 IsCause inner region print_or_spawn = region ≡ Inner
 IsCause inner region (outside g) = IsOutside inner region g
 
@@ -63,7 +59,7 @@ module _ (inner : (function : ℕ) → Bool) where
   serial_cause InBlock s is = absurd (false≢true is)
 
   each_barred : (region : Region) (s : StmtKind) → Leads (IsCause inner region) (is_barred inner region s) (λ c. test_of c s)
-  each_barred region s is = chosen (or_cases (is_sum s) (serial_in region s || some_of_statement (outside_in inner region) s) is)
+  each_barred region s is = chosen (or_cases (serial_in region s) (some_of_statement (outside_in inner region) s) is)
     where
       called : (g : ℕ) × IsOutside inner region g × (some_of_statement (is_call g) s ≡ true) → (c : Cause) × IsCause inner region c × (test_of c s ≡ true)
       called (g, good, is) = (outside g, good, is)
@@ -71,13 +67,9 @@ module _ (inner : (function : ℕ) → Bool) where
       printed : (region ≡ Inner) × (is_serial s ≡ true) → (c : Cause) × IsCause inner region c × (test_of c s ≡ true)
       printed (good, is) = (print_or_spawn, good, is)
 
-      other : (serial_in region s ≡ true) ⊎ (some_of_statement (outside_in inner region) s ≡ true) → (c : Cause) × IsCause inner region c × (test_of c s ≡ true)
-      other (inl is) = printed (serial_cause region s is)
-      other (inr is) = called (leads_of_statement (IsOutside inner region) (outside_in inner region) is_call (each_call region) s is)
-
-      chosen : (is_sum s ≡ true) ⊎ ((serial_in region s || some_of_statement (outside_in inner region) s) ≡ true) → (c : Cause) × IsCause inner region c × (test_of c s ≡ true)
-      chosen (inl is) = (sum, tt, is)
-      chosen (inr is) = other (or_cases (serial_in region s) (some_of_statement (outside_in inner region) s) is)
+      chosen : (serial_in region s ≡ true) ⊎ (some_of_statement (outside_in inner region) s ≡ true) → (c : Cause) × IsCause inner region c × (test_of c s ≡ true)
+      chosen (inl is) = printed (serial_cause region s is)
+      chosen (inr is) = called (leads_of_statement (IsOutside inner region) (outside_in inner region) is_call (each_call region) s is)
 
   none_barred : (region : Region) (body : List Stmt) → ((c : Cause) → IsCause inner region c → some_in_list (test_of c) body ≡ false) → some_in_list (is_barred inner region) body ≡ false
   none_barred region body none = chosen (some_in_list (is_barred inner region) body) refl
@@ -89,19 +81,18 @@ module _ (inner : (function : ℕ) → Bool) where
       chosen false is = is
       chosen true is = met (leads_in_list (IsCause inner region) (is_barred inner region) test_of (each_barred region) body is)
 
-  -- serial code has no prefix-sum
-  pub none_in_serial : (body : List Stmt) → some_in_list is_sum body ≡ false → some_in_list (is_barred inner Serial) body ≡ false
-  none_in_serial body sums = none_barred Serial body by_cause
+  -- nothing is barred from serial code
+  pub none_in_serial : (body : List Stmt) → some_in_list (is_barred inner Serial) body ≡ false
+  none_in_serial body = none_barred Serial body by_cause
     where
       not_inner : {A : Type 0} → Serial ≡ Inner → A
       not_inner is = absurd cc
 
       by_cause : (c : Cause) → IsCause inner Serial c → some_in_list (test_of c) body ≡ false
-      by_cause sum good = sums
       by_cause print_or_spawn good = not_inner good
       by_cause (outside g) good = not_inner good.0
 
-  -- nor has a function that blocks may call, which prints and spawns nothing, and calls such functions alone
+  -- a function that blocks may call prints and spawns nothing, and calls such functions alone
   module _ (p : Program) (are_inner : AreInner p inner) (f : ℕ) (function : Function) (found : slice_get p.functions f ≡ Some function) (may : inner f ≡ true) where
     reaches_none : Reaches p.functions is_serial f → ⊥
     reaches_none = (are_inner f).0 may
@@ -120,11 +111,10 @@ module _ (inner : (function : ℕ) → Bool) where
         chosen false is = is
         chosen true is = absurd (true≢false (sym ((are_inner g).1 (λ reached. reaches_none (by_call function found is reached))) ∙ not_inner))
 
-    pub none_in_inner : some_in_list is_sum function.body ≡ false → some_in_list (is_barred inner Inner) function.body ≡ false
-    none_in_inner sums = none_barred Inner function.body by_cause
+    pub none_in_inner : some_in_list (is_barred inner Inner) function.body ≡ false
+    none_in_inner = none_barred Inner function.body by_cause
       where
         by_cause : (c : Cause) → IsCause inner Inner c → some_in_list (test_of c) function.body ≡ false
-        by_cause sum good = sums
         by_cause print_or_spawn good = no_serial
         by_cause (outside g) good = no_call g good.1
 

@@ -1,5 +1,5 @@
 -- What an expression of a checked program names is known to its quads.
-use Rattle.std.proofs.Common.{◌≡◌, refl, sym, ◌∙◌, ap, arith, ℕ, zero, suc, ◌<◌, Bool, true, false, List, [], ◌∷◌, ◌++◌, length, Option, Some, None}
+use Rattle.std.proofs.Common.{◌≡◌, refl, sym, ◌∙◌, ap, arith, ℕ, zero, suc, ◌≤◌, ◌<◌, Bool, true, false, List, [], ◌∷◌, ◌++◌, length, Option, Some, None}
 use Rattle.std.specs.Prelude.{◌||◌, slice_get}
 use Rattle.std.specs.List.{list_any}
 use Rattle.xmt_base.specs.declared.Place.{Place}
@@ -13,10 +13,10 @@ use Rattle.source_meaning.specs.Inside.{some_inside, some_in_spot, some_in_row, 
 use Rattle.spawn_check.specs.Table.{MeetsNone}
 use Rattle.spawn_check.specs.Things.{occurrences}
 use Rattle.checked_programs.specs.Fits as fits
-use Rattle.checked_programs.specs.Fits.{Known, HasGlobal, ExpressionFits, SpotFits, RowFits, OptionFits, ValuesFit}
+use Rattle.checked_programs.specs.Fits.{Known, HasGlobal, ExpressionFits, SpotFits, RowFits, OptionFits, ValuesFit, SummedFits, PlaceFits}
 use Rattle.quad_code.specs.Rows as rows
 use Rattle.quad_code.specs.Rows.{row_of}
-use Rattle.quad_code.specs.Known.{Region, NamesKnown, SpotKnown, AllKnown, OptionKnown}
+use Rattle.quad_code.specs.Known.{Region, NamesKnown, SpotKnown, AllKnown, OptionKnown, SummedKnown}
 use Rattle.quad_code.specs.Whole.{HasFunction, MayCall}
 use Rattle.checked_quads.specs.Inner.{AreInner}
 use Rattle.checked_quads.proofs.Rules.{Around, Within, left_within, right_within, tail_within, around_at, in_expression, in_spot, in_row, in_values, in_option, outside_in, call_rule}
@@ -41,7 +41,7 @@ same_length (more_of-Expr place kind rest) = ap (λ n. suc n) (same_length rest)
 as_known : (p : Program) (f : ℕ) {n : _} (row : Row_of-Expr n) → fits.HasFunction p f (fits.row_length row) → HasFunction p f (rows.row_length row)
 as_known p f row has = record { function = has.function; found = has.found; counts = sym (same_length row) ∙ has.counts }
 
-module _ (p : Program) (blocks : MeetsNone p) (no_registers : p.registers ≡ []) (inner : (function : ℕ) → Bool) (are_inner : AreInner p inner) (region : Region) (loop : Bool)
+module _ (p : Program) (blocks : MeetsNone p) (few_registers : length p.registers ≤ 8) (inner : (function : ℕ) → Bool) (are_inner : AreInner p inner) (region : Region) (loop : Bool)
     (k l : Known) (same : (x : ℕ) → k x ≡ l x) where
   abbrev around : Around
   around = around_at region loop
@@ -92,7 +92,7 @@ module _ (p : Program) (blocks : MeetsNone p) (no_registers : p.registers ≡ []
     known_spot : (s : Spot) → Within (in_spot around s) (occurrences p) → some_in_spot out s ≡ false → SpotFits p k s → SpotKnown (length p.globals) (MayCall p inner region) l s
     known_spot (spot.Global g) within none fit = found_below p.globals g fit.global fit.found
     known_spot (spot.Element' g shape index) within none fit = (found_below p.globals g fit.0.global fit.0.found, known_row index within none fit.1)
-    known_spot (spot.Register r) within none fit = absurd (omega (arith, fit, ap length no_registers))
+    known_spot (spot.Register r) within none fit = omega (arith, fit, few_registers)
     known_spot (spot.Local slot) within none fit = sym (same slot) ∙ fit
 
     known_row : {n : _} (row : Row_of-Expr n) → Within (in_row around row) (occurrences p) → some_in_row out row ≡ false → RowFits p k row → AllKnown (length p.globals) (MayCall p inner region) l row
@@ -121,3 +121,19 @@ module _ (p : Program) (blocks : MeetsNone p) (no_registers : p.registers ≡ []
     known_values rest (right_within (in_expression around e.at e.kind) (in_values around rest) within)
         (second_none (some_expression out e.kind) (list_any (λ (x : Expr). some_expression out x.kind) rest) none) fit.1,
   )
+
+  -- ---- prefix-sums
+
+  -- the variable
+  pub known_summed : (s : Spot) → SummedFits p k s → SummedKnown (length p.globals) l s
+  known_summed (spot.Global g) fit = found_below p.globals g fit.global fit.found
+  known_summed (spot.Local slot) fit = sym (same slot) ∙ fit
+  known_summed (spot.Element' g shape index) fit = absurd fit
+  known_summed (spot.Register r) fit = absurd fit
+
+  -- the place of `psm`
+  pub known_place : (s : Spot) → Within (in_spot around s) (occurrences p) → some_in_spot out s ≡ false → PlaceFits p k s → SpotKnown (length p.globals) (MayCall p inner region) l s
+  known_place (spot.Global g) within none fit = known_spot (spot.Global g) within none fit
+  known_place (spot.Element' g shape index) within none fit = known_spot (spot.Element' g shape index) within none fit
+  known_place (spot.Register r) within none fit = absurd fit
+  known_place (spot.Local slot) within none fit = known_spot (spot.Local slot) within none fit

@@ -208,8 +208,8 @@ module _ (x : ℕ) where
       none_in_block l loop stmt.Continue known = refl
       none_in_block l loop (stmt.Return value) known = refl
       none_in_block l loop (stmt.Spawn' low high shape block) known = not_serial known.4
-      none_in_block l loop (stmt.Ps v r) known = absurd known
-      none_in_block l loop (stmt.Psm v p) known = absurd known
+      none_in_block l loop (stmt.Ps v r) known = refl
+      none_in_block l loop (stmt.Psm v p) known = refl
       none_in_block l loop (stmt.Print text values) known = refl
 
       none_in_rows : (l : Known) (loop : Bool) {n : _} (row : Row_of-Stmt n) → SequenceKnown globals MayCall variables outer l loop InBlock row → some_in_body (is_sharing x) row ≡ false
@@ -277,8 +277,8 @@ module _ (x : ℕ) where
           neither (and_right (is_written_in x block) (not (is_declared_in x block))
           (not_from_true (is_declared_in x block) (merged (is_declared_in x block) (some_in_body (declares_in_block x) block) (is_declared_in x block) is (λ here. here) (λ here. block_rows block here))))
           (none_in_rows l false block known.3)
-      own_block k l loop region (stmt.Ps v r) unknown known fresh is = absurd known
-      own_block k l loop region (stmt.Psm v p) unknown known fresh is = absurd known
+      own_block k l loop region (stmt.Ps v r) unknown known fresh is = refl
+      own_block k l loop region (stmt.Psm v p) unknown known fresh is = refl
       own_block k l loop region (stmt.Print text values) unknown known fresh is = refl
 
       pub own_rows : (k l : Known) (loop : Bool) (region : Region) {n : _} (row : Row_of-Stmt n) → l x ≡ false → SequenceKnown globals MayCall variables outer l loop region row → Fresh k (declared_in_row row) →

@@ -22,7 +22,6 @@ use Rattle.quad_code.specs.Rows.{rows_of}
 use Rattle.quad_code.specs.Functions.{outer_of}
 use Rattle.quad_code.specs.Whole.{MayCall, BodyKnown}
 use Rattle.checked_quads.specs.Inner.{AreInner}
-use Rattle.checked_quads.specs.Plain.{is_sum, HasNoSums}
 use Rattle.checked_quads.specs.Law.{CheckedProgramsAreKnown, CheckedProgramsHaveWords}
 use Rattle.checked_quads.proofs.Rules.{Within, around_at, in_list, is_barred}
 use Rattle.checked_quads.proofs.Fresh.{Fresh, all_fresh, declared_before}
@@ -61,7 +60,7 @@ declared_rows : (body : List Stmt) → declared_in_row (rows_of body) ≡ declar
 declared_rows [] = refl
 declared_rows (s ∷ rest) = ap (λ slots. declared_in s.kind ++ slots) (declared_rows rest)
 
-module _ (p : Program) (inner : (function : ℕ) → Bool) (checked : IsChecked p) (no_sums : HasNoSums p) (are_inner : AreInner p inner) where
+module _ (p : Program) (inner : (function : ℕ) → Bool) (checked : IsChecked p) (few_registers : length p.registers ≤ 8) (are_inner : AreInner p inner) where
   module _ (f : ℕ) (function : Function) (found : slice_get p.functions f ≡ Some function) where
     fresh : Fresh (λ x. nat_lt x function.params) (declared_in_list function.body)
     fresh =
@@ -76,7 +75,7 @@ module _ (p : Program) (inner : (function : ℕ) → Bool) (checked : IsChecked 
     unnumbered : (region : Region) → Within (in_list (around_at region false) function.body) (occurrences p) → some_in_list (is_barred inner region) function.body ≡ false →
         SequenceKnown (length p.globals) (MayCall p inner) function.variables (λ x. None) (λ x. nat_lt x function.params) false region (rows_of function.body)
     unnumbered region within none =
-        known_list p checked.blocks no_sums.registers inner are_inner function.variables (λ x. None) (λ x. refl) region false (λ x. nat_lt x function.params) (λ x. nat_lt x function.params) (λ x. refl)
+        known_list p checked.blocks few_registers inner are_inner function.variables (λ x. None) (λ x. refl) region false (λ x. nat_lt x function.params) (λ x. nat_lt x function.params) (λ x. refl)
         function.body within none (at_place (BodyFits p) p.functions f function checked.bodies found) fresh
 
     -- a variable that a block declares is not shared
@@ -94,23 +93,20 @@ module _ (p : Program) (inner : (function : ℕ) → Bool) (checked : IsChecked 
         let known = unnumbered region within none in
         renumbered_rows (length p.globals) (MayCall p inner) function.variables (λ x. None) (outer_of function.body) (λ x. nat_lt x function.params) false region (rows_of function.body) known (alone region known)
 
-    sums : some_in_list is_sum function.body ≡ false
-    sums = at_place (λ (g : Function). some_in_list is_sum g.body ≡ false) p.functions f function no_sums.sums found
-
     known_serial : BodyKnown p inner Serial function
-    known_serial = body_known Serial (function_within p.functions f function found) (none_in_serial inner function.body sums)
+    known_serial = body_known Serial (function_within p.functions f function found) (none_in_serial inner function.body)
 
     known_inner : inner f ≡ true → BodyKnown p inner Inner function
-    known_inner may = body_known Inner (function_within p.functions f function found) (none_in_inner inner p are_inner f function found may sums)
+    known_inner may = body_known Inner (function_within p.functions f function found) (none_in_inner inner p are_inner f function found may)
 
 pub checked_programs_are_known : CheckedProgramsAreKnown
-checked_programs_are_known p inner checked limits no_sums are_inner =
+checked_programs_are_known p inner checked limits are_inner =
     record {
       main = record { function = checked.main.function; found = checked.main.found; counts = checked.main.counts };
       few_params = λ f function found. omega (arith, (at_place FunctionIsWithinLimits p.functions f function limits.each_function found).parameters);
       params = λ f function found. at_place (λ (g : Function). g.params ≤ g.variables) p.functions f function checked.parameters found;
-      serial = λ f function found. known_serial p inner checked no_sums are_inner f function found;
-      called = λ f function found may. known_inner p inner checked no_sums are_inner f function found may;
+      serial = λ f function found. known_serial p inner checked limits.registers are_inner f function found;
+      called = λ f function found may. known_inner p inner checked limits.registers are_inner f function found may;
       unshared = λ f function found may. shares_none inner p are_inner f function found may;
       room = All-weaker HasLength HasRoom (λ g has. has.room) p.globals checked.lengths;
     }

@@ -23,7 +23,6 @@ use Rattle.spawn_check.proofs.Lifting.{Leads, leads_in_list}
 use Rattle.quad_code.specs.Known.{Region, Serial, Inner, InBlock, MayReturn}
 use Rattle.quad_code.specs.Whole.{HasFunction, MayCall}
 use Rattle.checked_quads.specs.Inner.{is_print, is_spawn, is_serial, Reaches, itself, by_call, AreInner}
-use Rattle.checked_quads.specs.Plain.{is_sum}
 
 -- ---- types of spawn_check that have no name here
 
@@ -115,7 +114,7 @@ outside_in inner _ e = false
 
 -- what does not stand in the region
 abbrev pub is_barred : (inner : (function : ℕ) → Bool) → Region → StmtKind → Bool
-is_barred inner region s = is_sum s || (serial_in region s || some_of_statement (outside_in inner region) s)
+is_barred inner region s = serial_in region s || some_of_statement (outside_in inner region) s
 
 -- ---- the rules
 

@@ -16,6 +16,7 @@ use Rattle.checked_programs.specs.Fits.{Known}
 use Rattle.quad_code.specs.Rows.{row_of}
 use Rattle.quad_code.specs.Known as quads
 use Rattle.quad_code.specs.Known.{Region, InBlock, NamesKnown, SpotKnown, AllKnown, OptionKnown, StatementKnown, SequenceKnown, ElseKnown}
+use Rattle.quad_limits.proofs.Sums.{summed_is_known}
 use Rattle.checked_quads.proofs.Expressions.{first_none, second_none}
 
 pub neither : {a b : Bool} → a ≡ false → b ≡ false → (a || b) ≡ false
@@ -148,8 +149,14 @@ module _ (globals : ℕ) (x : ℕ) where
       unwritten l loop region (stmt.Return value) unknown known none = neither (optional (MayCall region) l unknown value known.0) refl
       unwritten l loop region (stmt.Spawn' low high shape block) unknown known none =
           neither (neither (whole (MayCall region) l unknown low.kind known.0) (whole (MayCall region) l unknown high.kind known.1)) (unwritten_rows l false InBlock block unknown known.3 none)
-      unwritten l loop region (stmt.Ps v r) unknown known none = absurd known
-      unwritten l loop region (stmt.Psm v p) unknown known none = absurd known
+      unwritten l loop region (stmt.Ps v r) unknown known none =
+          let sum = summed_is_known globals (MayCall region) l v known.0 in neither (neither (not_local (MayCall region) l unknown v sum) (none_in_spot (MayCall region) l unknown v sum)) refl
+      unwritten l loop region (stmt.Psm v p) unknown known none =
+          let sum = summed_is_known globals (MayCall region) l v known.0 in
+          neither
+          (neither (neither (not_local (MayCall region) l unknown v sum) (not_local (MayCall region) l unknown p known.1))
+          (neither (none_in_spot (MayCall region) l unknown v sum) (none_in_spot (MayCall region) l unknown p known.1)))
+          refl
       unwritten l loop region (stmt.Print text values) unknown known none = neither (values_none (MayCall region) l unknown values known.0) refl
 
       pub unwritten_rows : (l : Known) (loop : Bool) (region : Region) {n : _} (row : Row_of-Stmt n) → l x ≡ false → SequenceKnown globals MayCall variables outer l loop region row →
@@ -187,8 +194,8 @@ module _ (globals : ℕ) (x : ℕ) where
       unshared l loop region (stmt.Return value) unknown known none = refl
       unshared l loop region (stmt.Spawn' low high shape block) unknown known none =
           neither (and_left (is_written_in x block) (not (is_declared_in x block)) (unwritten_rows l false InBlock block unknown known.3 none)) (unshared_rows l false InBlock block unknown known.3 none)
-      unshared l loop region (stmt.Ps v r) unknown known none = absurd known
-      unshared l loop region (stmt.Psm v p) unknown known none = absurd known
+      unshared l loop region (stmt.Ps v r) unknown known none = refl
+      unshared l loop region (stmt.Psm v p) unknown known none = refl
       unshared l loop region (stmt.Print text values) unknown known none = refl
 
       pub unshared_rows : (l : Known) (loop : Bool) (region : Region) {n : _} (row : Row_of-Stmt n) → l x ≡ false → SequenceKnown globals MayCall variables outer l loop region row →

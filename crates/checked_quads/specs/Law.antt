@@ -7,12 +7,11 @@ use Rattle.checked_programs.specs.Limits.{IsWithinLimits}
 use Rattle.quad_code.specs.Whole.{IsKnown}
 use Rattle.quad_limits.specs.Limits.{HasWords}
 use Rattle.checked_quads.specs.Inner.{AreInner}
-use Rattle.checked_quads.specs.Plain.{HasNoSums}
 
--- all names are known in a checked program within the limits that has no prefix-sums; blocks may call the functions that reach neither a print nor a spawn
+-- all names are known in a checked program within the limits; blocks may call the functions that reach neither a print nor a spawn
 abbrev pub CheckedProgramsAreKnown : Type 0
 CheckedProgramsAreKnown =
-    (program : Program) (inner : (function : ℕ) → Bool) → IsChecked program → IsWithinLimits program → HasNoSums program → AreInner program inner →
+    (program : Program) (inner : (function : ℕ) → Bool) → IsChecked program → IsWithinLimits program → AreInner program inner →
     IsKnown program inner
 
 -- each global of a checked program has a word

@@ -10,6 +10,7 @@ pub mod Choices
 pub mod Simulation
 pub mod KeptCode
 pub mod Plain
+pub mod Sums
 pub mod Loops
 pub mod Values
 pub mod Calls

@@ -4,6 +4,7 @@ use Rattle.std.specs.Prelude.{Bool, slice_get}
 use Rattle.source_meaning.specs.declared.tree.Expr.{Expr}
 use Rattle.source_meaning.specs.declared.tree.StmtKind.{StmtKind, Row_of-Stmt, end_of-Stmt, more_of-Stmt, Held-StmtKind-If-2, None', Some'}
 use Rattle.source_meaning.specs.declared.tree.StmtKind.TheVariants as stmt
+use Rattle.source_meaning.specs.declared.tree.Spot.TheVariants.{Register}
 use Rattle.source_meaning.specs.Code.{spawns, all_spawns, else_spawns}
 use Rattle.xmt_quads.specs.declared.code.Operand.{Operand}
 use Rattle.xmt_quads.specs.declared.code.Quad.{Quad}
@@ -12,11 +13,11 @@ use Rattle.xmt_quads.specs.Program.{is_spawn}
 use Rattle.quad_code.specs.Lined.{Prints, Lined, lined, one, choice, loop_code, do_code, spawn_code}
 use Rattle.quad_code.specs.Rows.{row_of}
 use Rattle.quad_code.specs.Expressions.{operand_of, writing, access_of_slot, code_at, values_at, arguments_of}
-use Rattle.quad_code.specs.Statements.{Counts, prints, all_prints, else_prints, behind, behind_all, in_spawn, option_operand, expression_at, option_at, statement_at, sequence_at, else_at}
+use Rattle.quad_code.specs.Statements.{Counts, prints, all_prints, else_prints, behind, behind_all, in_spawn, option_operand, expression_at, option_at, sum_at, statement_at, sequence_at, else_at}
 use Rattle.quad_code.specs.Known.{Region, Serial, InBlock, StatementKnown, SequenceKnown, ElseKnown}
 use Rattle.quad_code.specs.Whole.{texts_in, all_texts, else_texts}
 use Rattle.quad_code.proofs.Threads.{not_serial}
-use Rattle.quad_code.proofs.Notes.{is_join, AreNoted, joins_behind, Noted, noted-append, noted_at, none_noted, plain_noted, AreQuiet, quiet-append, quiet_noted, writing_quiet, expression_quiet, values_quiet, arguments_quiet}
+use Rattle.quad_code.proofs.Notes.{is_join, AreNoted, joins_behind, Noted, noted-append, noted_at, none_noted, plain_noted, AreQuiet, quiet-append, quiet_noted, writing_quiet, expression_quiet, values_quiet, arguments_quiet, sum_quiet}
 
 -- ---- the texts of statements
 
@@ -219,8 +220,10 @@ module _ (texts : List (List ℕ)) (globals : ℕ) (MayCall : Region → (functi
         (noted-append texts J at1 (n.spawned + 0) 0 0 0 ca last (quiet_noted texts J at1 (n.spawned + 0) ca (arguments_quiet base_of size_of outer (row_of values) line 0 variables))
         (record { notes = (t.0, tt); spawns = refl; joins = λ never. refl }) refl)
         refl
-    statement_noted (stmt.Ps v r) known loop region is at leave again n line t = absurd is
-    statement_noted (stmt.Psm v p) known loop region is at leave again n line t = absurd is
+    statement_noted (stmt.Ps v r) known loop region is at leave again n line t =
+        quiet_noted texts (region ≡ Serial) at n.spawned (sum_at base_of size_of outer variables at line v (Register r)) (sum_quiet base_of size_of outer variables at line v (Register r))
+    statement_noted (stmt.Psm v p) known loop region is at leave again n line t =
+        quiet_noted texts (region ≡ Serial) at n.spawned (sum_at base_of size_of outer variables at line v p) (sum_quiet base_of size_of outer variables at line v p)
 
     pub sequence_noted : {m : _} (row : Row_of-Stmt m) (known : ℕ → Bool) (loop : Bool) (region : Region) → SequenceKnown globals MayCall variables outer known loop region row → (at leave again : ℕ) (n : Counts) → TextsAt texts n.printed (all_texts row) →
         Noted texts at n.spawned (all_spawns row) (region ≡ Serial) (sequence_at base_of size_of outer variables at leave again n row)

@@ -7,14 +7,15 @@ use Rattle.source_meaning.specs.declared.tree.Spot.{Spot}
 use Rattle.source_meaning.specs.declared.tree.Spot.TheVariants as spot
 use Rattle.xmt_base.specs.declared.operators.BinOp.TheVariants.{Ne}
 use Rattle.xmt_quads.specs.declared.code.Operand.{Operand}
-use Rattle.xmt_quads.specs.declared.code.Operand.TheVariants.{Literal}
+use Rattle.xmt_quads.specs.declared.code.Operand.TheVariants.{Reg, Literal}
 use Rattle.xmt_quads.specs.declared.code.Quad.{Quad}
 use Rattle.xmt_quads.specs.declared.code.Quad.TheVariants as quad
 use Rattle.xmt_quads.specs.Program.{is_spawn}
 use Rattle.quad_code.specs.declared.Access.{Access}
 use Rattle.quad_code.specs.declared.Access.TheVariants.{Own, Common}
 use Rattle.quad_code.specs.Lined.{Note, Plain, Spawns, Prints, Lined, lined, one, code_then, choice}
-use Rattle.quad_code.specs.Expressions.{boxed_operand, reading, writing, access_of, code_at, boxed_at, spot_at, values_at, arguments_of}
+use Rattle.quad_code.specs.Statements.{sum_at}
+use Rattle.quad_code.specs.Expressions.{boxed_operand, held, reading, writing, adding, access_of, code_at, boxed_at, spot_at, values_at, arguments_of}
 
 abbrev pub is_join : Quad → Bool
 is_join quad.Join = true
@@ -163,6 +164,10 @@ pub writing_quiet : (line : ℕ) (a : Access) (o : Operand) → IsQuiet (lined l
 writing_quiet line (Own x) o = (refl, refl, refl)
 writing_quiet line (Common place) o = (refl, refl, refl)
 
+adding_quiet : (line old : ℕ) (a : Access) (o : Operand) → AreQuiet (adding line old a o)
+adding_quiet line old (Own x) o = ((refl, refl, refl), ((refl, refl, refl), tt))
+adding_quiet line old (Common place) o = ((refl, refl, refl), tt)
+
 quiet_choice : (line at : ℕ) (skip : ℕ → Quad) (first second : ℕ → List Lined) → ((to : ℕ) → IsQuiet (lined line (skip to))) → ((at : ℕ) → AreQuiet (first at)) → ((at : ℕ) → AreQuiet (second at)) → AreQuiet (choice line at skip first second)
 quiet_choice line at skip first second quiet a b =
     let middle = at + 1 + length (first (at + 1)) + 1 in
@@ -223,3 +228,14 @@ module _ (base_of size_of : ℕ → ℕ) (outer : ℕ → Option ℕ) where
     pub arguments_quiet : {m : _} (row : Row_of-Expr m) (line k r : ℕ) → AreQuiet (arguments_of base_of size_of outer line k r row)
     arguments_quiet end_of-Expr line k r = tt
     arguments_quiet (more_of-Expr place kind rest) line k r = ((refl, refl, refl), arguments_quiet rest line (k + 1) (r + 1))
+
+  -- prefix-sums
+  pub sum_quiet : (variables at line : ℕ) (v p : Spot) → AreQuiet (sum_at base_of size_of outer variables at line v p)
+  sum_quiet variables at line v p =
+      let r = variables + 1 in
+      let old = r + held p in (
+        reading_quiet variables line (access_of base_of size_of outer variables v),
+        quiet-append (spot_at base_of size_of outer (at + 1) r line p) _ (spot_quiet p (at + 1) r line)
+            (quiet-append (adding line old (access_of base_of size_of outer r p) (Reg variables)) _ (adding_quiet line old (access_of base_of size_of outer r p) (Reg variables))
+            (writing_quiet line (access_of base_of size_of outer variables v) (Reg old), tt)),
+      )

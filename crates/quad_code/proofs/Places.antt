@@ -54,7 +54,7 @@ module _ (s : Setting) where
 
   -- ---- what a write changes
 
-  write_own : (r slot v : ℕ) (p : Point) → s.outer slot ≡ None → s.known slot ≡ true → Fits s p → Reaches s r p (record p { registers = with_register p.registers slot v; store = store_with p.store (s.frame slot) v })
+  pub write_own : (r slot v : ℕ) (p : Point) → s.outer slot ≡ None → s.known slot ≡ true → Fits s p → Reaches s r p (record p { registers = with_register p.registers slot v; store = store_with p.store (s.frame slot) v })
   write_own r slot v p own low fits =
       record {
         waits = λ x from below. grind (arith, from, s.known_low slot low);

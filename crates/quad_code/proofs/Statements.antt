@@ -1,17 +1,21 @@
--- The quads of every statement but prefix-sums keep to the source, if those of expressions do.
+-- The quads of every statement keep to the source, if those of expressions do.
 use Rattle.std.proofs.Common.{◌≡◌, ℕ, ◌<◌, true, Option, Some, None}
 use Rattle.std.specs.Prelude.{Bool}
 use Rattle.source_meaning.specs.declared.tree.Expr.{Expr}
 use Rattle.source_meaning.specs.declared.tree.ExprKind.{ExprKind, Row_of-Expr, end_of-Expr, more_of-Expr}
+use Rattle.source_meaning.specs.declared.tree.Spot.{Spot}
+use Rattle.source_meaning.specs.declared.tree.Spot.TheVariants as spot
 use Rattle.source_meaning.specs.declared.tree.StmtKind.{StmtKind, Row_of-Stmt, end_of-Stmt, more_of-Stmt, Held-StmtKind-If-2, None', Some'}
 use Rattle.source_meaning.specs.declared.tree.StmtKind.TheVariants as stmt
 use Rattle.source_meaning.specs.Next.{Next}
 use Rattle.quad_code.proofs.Setting.{Setting}
-use Rattle.quad_code.proofs.Kept.{Kept}
+use Rattle.quad_code.proofs.Kept.{Kept, KeptBox, KeptSpot, empty_kept}
+use Rattle.quad_code.proofs.Writes.{global_kept, register_kept, local_kept, element_kept}
 use Rattle.quad_code.proofs.KeptCode.{knowing, after, after_all, KeptCode, KeptSequence, nothing_kept, more_kept}
 use Rattle.quad_code.proofs.Plain.{KeptElse, KeptOption, empty_statement_kept, value_kept, block_kept, break_kept, continue_kept, return_kept, declare_kept, if_kept}
 use Rattle.quad_code.specs.Rows.{row_of}
 use Rattle.quad_code.proofs.Simulation.{AllKept}
+use Rattle.quad_code.proofs.Sums.{ps_kept, psm_kept}
 use Rattle.quad_code.proofs.Prints.{print_kept}
 use Rattle.quad_code.proofs.Spawns.{spawn_kept}
 use Rattle.quad_code.proofs.Loops.{while_kept, for_kept, do_kept}
@@ -25,6 +29,16 @@ module _ (s : Setting) {U S : Type 0} (whole : U → Next U S) (kept : (known : 
   all_kept : {m : _} (row : Row_of-Expr m) (known : ℕ → Bool) (knows : (x : ℕ) → known x ≡ true → x < s.variables) → AllKept (knowing s known knows) whole row
   all_kept end_of-Expr known knows = tt
   all_kept (more_of-Expr place kind rest) known knows = (kept known knows place.line kind, all_kept rest known knows)
+
+  box_kept : {m : _} (row : Row_of-Expr m) (known : ℕ → Bool) (knows : (x : ℕ) → known x ≡ true → x < s.variables) → KeptBox (knowing s known knows) whole row
+  box_kept end_of-Expr known knows r c n credit at p from rich stands below fits go = empty_kept (knowing s known knows) whole r c n credit at p from rich stands below fits go
+  box_kept (more_of-Expr place kind rest) known knows r c n credit at p from rich stands below fits go = kept known knows place.line kind r c n credit at p from rich stands below.0 fits go
+
+  spot_kept : (known : ℕ → Bool) (knows : (x : ℕ) → known x ≡ true → x < s.variables) (line : ℕ) (p : Spot) → KeptSpot (knowing s known knows) whole line p
+  spot_kept known knows line (spot.Global g) = global_kept (knowing s known knows) whole line g
+  spot_kept known knows line (spot.Element' g shape index) = element_kept (knowing s known knows) whole line g shape index (box_kept index known knows)
+  spot_kept known knows line (spot.Register x) = register_kept (knowing s known knows) whole line x
+  spot_kept known knows line (spot.Local slot) = local_kept (knowing s known knows) whole line slot
 
   mutual
     pub statement_kept : (line : ℕ) (k : StmtKind) (known : ℕ → Bool) (knows : (x : ℕ) → known x ≡ true → x < s.variables) → KeptCode (knowing s known knows) whole line k
@@ -42,8 +56,8 @@ module _ (s : Setting) {U S : Type 0} (whole : U → Next U S) (kept : (known : 
     statement_kept line stmt.Continue known knows = continue_kept (knowing s known knows) whole line
     statement_kept line (stmt.Return value) known knows = return_kept (knowing s known knows) whole line value (option_kept known knows value)
     statement_kept line (stmt.Spawn' low high shape body) known knows = spawn_kept (knowing s known knows) whole line low high shape body (kept known knows low.at.line low.kind) (kept known knows high.at.line high.kind)
-    statement_kept line (stmt.Ps v r) known knows = λ c n credit l at leave again met loop p x rich spare stands below fits e leads. absurd below
-    statement_kept line (stmt.Psm v r) known knows = λ c n credit l at leave again met loop p x rich spare stands below fits e leads. absurd below
+    statement_kept line (stmt.Ps v r) known knows = ps_kept (knowing s known knows) whole line v r
+    statement_kept line (stmt.Psm v place) known knows = psm_kept (knowing s known knows) whole line v place (spot_kept known knows line place)
     statement_kept line (stmt.Print text values) known knows = print_kept (knowing s known knows) whole line text values (all_kept (row_of values) known knows)
 
     pub sequence_kept : {m : _} (row : Row_of-Stmt m) (known : ℕ → Bool) (knows : (x : ℕ) → known x ≡ true → x < s.variables) → KeptSequence (knowing s known knows) whole row

@@ -29,6 +29,11 @@ abbrev pub writing : Access → Operand → Quad
 writing (Own x) o = quad.Copy x o
 writing (Common place) o = quad.Store place o
 
+-- the value of an operand is added to a place, and what the place held is left in a register
+abbrev pub adding : (line old : ℕ) → Access → Operand → List Lined
+adding line old (Own x) o = lined line (quad.Copy old (Reg x)) ∷ one line (quad.Binary Add x (Reg x) o)
+adding line old (Common place) o = one line (quad.Add old place o)
+
 -- where an expression's value is found
 abbrev pub operand_of : (register : ℕ) → ExprKind → Operand
 operand_of r (expr.Number n) = Literal n

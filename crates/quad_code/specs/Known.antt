@@ -42,6 +42,12 @@ module _ (globals : ℕ) (MayCall : (function values : ℕ) → Type 0) where
   OptionKnown k None = Unit {0}
   OptionKnown k (Some e) = NamesKnown k e.kind
 
+-- the variable of a prefix-sum, which is a global or a known variable
+abbrev pub SummedKnown : (globals : ℕ) → (known : ℕ → Bool) → Spot → Type 0
+SummedKnown globals k (spot.Global x) = x < globals
+SummedKnown globals k (spot.Local slot) = k slot ≡ true
+SummedKnown globals k _ = ⊥
+
 -- the variables that are known behind a statement, of so many: a declaration adds its own
 abbrev pub declared : (variables : ℕ) → (known : ℕ → Bool) → StmtKind → (ℕ → Bool)
 declared v k (stmt.Declare slot value) = λ x. k x || ((x == slot) && nat_lt x v)
@@ -91,7 +97,8 @@ module _ (globals : ℕ) (MayCall : Region → (function values : ℕ) → Type 
         NamesKnown globals (MayCall region) k low.kind × NamesKnown globals (MayCall region) k high.kind × OwnVariables outer k body × SequenceKnown k false InBlock body × (region ≡ Serial)
     StatementKnown k loop region (stmt.Print text values) =
         AllKnown globals (MayCall region) k (row_of values) × (directives false text ≡ length values) × (length values ≤ 16) × (region ≡ Serial)
-    StatementKnown k loop region _ = ⊥
+    StatementKnown k loop region (stmt.Ps v r) = SummedKnown globals k v × (r < 8)
+    StatementKnown k loop region (stmt.Psm v p) = SummedKnown globals k v × SpotKnown globals (MayCall region) k p
 
     pub SequenceKnown : (known : ℕ → Bool) → (loop : Bool) → Region → {n : _} → Row_of-Stmt n → Type 0
     SequenceKnown k loop region end_of-Stmt = Unit {0}

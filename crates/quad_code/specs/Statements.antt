@@ -1,15 +1,17 @@
--- The quads that stand for a statement. Prefix-sums have none yet.
+-- The quads that stand for a statement.
 use Rattle.std.specs.Prelude.{ℕ, ◌+◌, List, [], ◌∷◌, ◌++◌, Option, Some, None}
 use Rattle.source_meaning.specs.declared.tree.Expr.{Expr}
 use Rattle.source_meaning.specs.declared.tree.StmtKind.{StmtKind, Row_of-Stmt, end_of-Stmt, more_of-Stmt, Held-StmtKind-If-2, None', Some'}
 use Rattle.source_meaning.specs.declared.tree.StmtKind.TheVariants as stmt
+use Rattle.source_meaning.specs.declared.tree.Spot.{Spot}
+use Rattle.source_meaning.specs.declared.tree.Spot.TheVariants.{Register}
 use Rattle.source_meaning.specs.Code.{spawns, all_spawns}
 use Rattle.xmt_quads.specs.declared.code.Operand.{Operand}
-use Rattle.xmt_quads.specs.declared.code.Operand.TheVariants.{Literal}
+use Rattle.xmt_quads.specs.declared.code.Operand.TheVariants.{Reg, Literal}
 use Rattle.xmt_quads.specs.declared.code.Quad.TheVariants as quad
-use Rattle.quad_code.specs.Lined.{Prints, Lined, one, code_then, choice, loop_code, do_code, spawn_code}
+use Rattle.quad_code.specs.Lined.{Prints, Lined, lined, one, code_then, choice, loop_code, do_code, spawn_code}
 use Rattle.quad_code.specs.Rows.{row_of}
-use Rattle.quad_code.specs.Expressions.{operand_of, writing, access_of_slot, code_at, values_at, arguments_of}
+use Rattle.quad_code.specs.Expressions.{operand_of, held, reading, writing, adding, access_of, access_of_slot, code_at, spot_at, values_at, arguments_of}
 
 -- ---- spawns and prints by their numbers in the text
 
@@ -71,6 +73,15 @@ module _ (base_of size_of : (global : ℕ) → ℕ) (outer : (slot : ℕ) → Op
       code_then at (values_at base_of size_of outer at variables (row_of values)) (λ at.
       arguments_of base_of size_of outer line 0 variables (row_of values) ++ record { quad = quad.Print number; line = line; note = Prints text } ∷ [])
 
+  -- a prefix-sum: the variable's value, which is added to the place; what the place held is then the variable's value
+  abbrev pub sum_at : (at line : ℕ) → (variable place : Spot) → List Lined
+  sum_at at line variable place =
+      let old = variables + 1 + held place in
+      lined line (reading variables (access_of base_of size_of outer variables variable)) ∷
+      code_then (at + 1) (spot_at base_of size_of outer (at + 1) (variables + 1) line place) (λ at.
+      adding line old (access_of base_of size_of outer (variables + 1) place) (Reg variables) ++
+      one line (writing (access_of base_of size_of outer variables variable) (Reg old)))
+
   -- the bounds of a spawn, and its block
   abbrev pub spawn_at : (at line site : ℕ) → (low high : Expr) → (block : (at : ℕ) → List Lined) → List Lined
   spawn_at at line site low high block =
@@ -100,8 +111,9 @@ module _ (base_of size_of : (global : ℕ) → ℕ) (outer : (slot : ℕ) → Op
     statement_at at leave again n line stmt.Continue = one line (quad.Jump again)
     statement_at at leave again n line (stmt.Return value) = code_then at (option_at at value) (λ at. one line (quad.Return (option_operand variables 0 value)))
     statement_at at leave again n line (stmt.Spawn' low high shape body) = spawn_at at line n.spawned low high (λ at. sequence_at at leave again (in_spawn n) body)
+    statement_at at leave again n line (stmt.Ps v r) = sum_at at line v (Register r)
+    statement_at at leave again n line (stmt.Psm v p) = sum_at at line v p
     statement_at at leave again n line (stmt.Print text values) = print_at at line n.printed text values
-    statement_at at leave again n line _ = []
 
     pub sequence_at : (at leave again : ℕ) → Counts → {m : _} → Row_of-Stmt m → List Lined
     sequence_at at leave again n end_of-Stmt = []

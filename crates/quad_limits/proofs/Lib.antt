@@ -1,4 +1,5 @@
 pub mod Weights
+pub mod Sums
 pub mod StatementWeights
 pub mod Registers
 pub mod StatementRegisters

@@ -45,7 +45,7 @@ module _ (program : QuadProgram) (f : QuadFunction) where
   pub back_ends : (at : ℕ) (a b : List Lined) → Ends at (a ++ b) → Ends (at + length a) b
   back_ends at a b h = omega (arith, h, length-append a b)
 
-  abbrev AccessExists : Access → Type 0
+  abbrev pub AccessExists : Access → Type 0
   AccessExists (Own x) = Unit {0}
   AccessExists (Common place) = PlaceExists program place
 
@@ -172,7 +172,7 @@ module _ (program : QuadProgram) (f : QuadFunction) (base_of size_of : ℕ → �
         let last : List Lined = lined line (quad.Call function) ∷ one line (quad.Result r) in
         both at cv (ca ++ last) ends (λ h. values_exist values at r is.1 h) (λ h. exists-append program f ca last (arguments_exist values line 0 r (omega (arith, there.1))) (there.0, (tt, tt)))
 
-    spot_exists : (p : Spot) (at r line : ℕ) → SpotKnown globals MayCall known p → Ends program f at (spot_at base_of size_of outer at r line p) → CodeExists program f (spot_at base_of size_of outer at r line p)
+    pub spot_exists : (p : Spot) (at r line : ℕ) → SpotKnown globals MayCall known p → Ends program f at (spot_at base_of size_of outer at r line p) → CodeExists program f (spot_at base_of size_of outer at r line p)
     spot_exists (spot.Element' g shape index) at r line is ends = both at (box at r index) (one line (quad.Test (boxed_operand r index) (size_of g))) ends (λ h. box_exists index at r is.1 h) (λ h. (tables.sizes g is.0, tt))
     spot_exists (spot.Global g) at r line is ends = tt
     spot_exists (spot.Register x) at r line is ends = tt

@@ -6,7 +6,7 @@ use Rattle.source_meaning.specs.declared.tree.ExprKind.{ExprKind, Row_of-Expr, e
 use Rattle.source_meaning.specs.declared.tree.ExprKind.TheVariants as expr
 use Rattle.source_meaning.specs.declared.tree.Spot.{Spot}
 use Rattle.source_meaning.specs.declared.tree.Spot.TheVariants as spot
-use Rattle.quad_limits.specs.Waiting.{waiting_in, waiting_at, waiting_boxed, waiting_behind}
+use Rattle.tree_measures.specs.Waiting.{waiting_in, waiting_at, waiting_boxed, waiting_behind}
 use Rattle.xmt_quads.specs.declared.code.Operand.{Operand}
 use Rattle.xmt_quads.specs.declared.code.Operand.TheVariants.{Reg, Literal}
 use Rattle.xmt_quads.specs.declared.code.Where.{Where}
@@ -138,10 +138,10 @@ mutual
   pub waiting_one : (k : ExprKind) → 1 ≤ waiting_in k
   waiting_one (expr.Number n) = omega arith
   waiting_one expr.Dollar = omega arith
-  waiting_one (expr.Read p) = at_one p 1 1 (omega arith) (omega arith)
-  waiting_one (expr.Assign' p shape e) = at_one p (waiting_boxed e) (1 + waiting_boxed e) (box_one e) (omega arith)
-  waiting_one (expr.Update' op p shape e) = at_one p (1 + waiting_boxed e) (2 + waiting_boxed e) (omega arith) (omega arith)
-  waiting_one (expr.Step p up after) = at_one p 2 3 (omega arith) (omega arith)
+  waiting_one (expr.Read p) = at_one p 1 0 (omega arith)
+  waiting_one (expr.Assign' p shape e) = at_one p (waiting_boxed e) (1 + waiting_boxed e) (box_one e)
+  waiting_one (expr.Update' op p shape e) = at_one p (1 + waiting_boxed e) (2 + waiting_boxed e) (omega arith)
+  waiting_one (expr.Step p up after) = at_one p 2 3 (omega arith)
   waiting_one (expr.Unary' op shape e) = box_one e
   waiting_one (expr.Binary' op left a right b) = grind (arith, box_one a)
   waiting_one (expr.Both' left a right b) = grind (arith, box_one a)
@@ -149,11 +149,11 @@ mutual
   waiting_one (expr.Choose' first test left a right b) = grind (arith, box_one test)
   waiting_one (expr.Call' function shape values) = grind arith
 
-  at_one : (p : Spot) (variable element : ℕ) → 1 ≤ variable → 1 ≤ element → 1 ≤ waiting_at p variable element
-  at_one (spot.Element' g shape index) v e hv he = grind (arith, hv, he)
-  at_one (spot.Global g) v e hv he = hv
-  at_one (spot.Register x) v e hv he = hv
-  at_one (spot.Local x) v e hv he = hv
+  at_one : (p : Spot) (variable element : ℕ) → 1 ≤ variable → 1 ≤ waiting_at p variable element
+  at_one (spot.Element' g shape index) v e hv = grind (arith, box_one index)
+  at_one (spot.Global g) v e hv = hv
+  at_one (spot.Register x) v e hv = hv
+  at_one (spot.Local x) v e hv = hv
 
   box_one : (row : Row_of-Expr 1) → 1 ≤ waiting_boxed row
   box_one (more_of-Expr place kind rest) = waiting_one kind
@@ -164,13 +164,13 @@ room_at (spot.Global g) v e h = omega arith
 room_at (spot.Register x) v e h = omega arith
 room_at (spot.Local x) v e h = omega arith
 
-spot_room : (p : Spot) (v e : ℕ) → 1 ≤ e → waiting_at p 0 1 ≤ waiting_at p v e
-spot_room (spot.Element' g shape index) v e h = grind (arith, h)
-spot_room (spot.Global g) v e h = omega arith
-spot_room (spot.Register x) v e h = omega arith
-spot_room (spot.Local x) v e h = omega arith
+spot_room : (p : Spot) (v e : ℕ) → waiting_at p 0 0 ≤ waiting_at p v e
+spot_room (spot.Element' g shape index) v e = grind arith
+spot_room (spot.Global g) v e = omega arith
+spot_room (spot.Register x) v e = omega arith
+spot_room (spot.Local x) v e = omega arith
 
-reading_below : (n r : ℕ) (a : Access) → r < n → AccessBelow n a → RegistersBelow n (reading r a)
+pub reading_below : (n r : ℕ) (a : Access) → r < n → AccessBelow n a → RegistersBelow n (reading r a)
 reading_below n r (Own x) h is = (h, is)
 reading_below n r (Common place) h is = (h, is)
 
@@ -183,7 +183,7 @@ module _ (base_of size_of : ℕ → ℕ) (outer : ℕ → Option ℕ) (globals :
   slot_below slot None h = low slot h
   slot_below slot (Some number) h = tt
 
-  access_below : (r : ℕ) (p : Spot) → SpotKnown globals MayCall known p → r < n → AccessBelow n (access_of base_of size_of outer r p)
+  pub access_below : (r : ℕ) (p : Spot) → SpotKnown globals MayCall known p → r < n → AccessBelow n (access_of base_of size_of outer r p)
   access_below r (spot.Global g) is h = tt
   access_below r (spot.Element' g shape index) is h = boxed_below n r index h
   access_below r (spot.Register x) is h = tt
@@ -196,13 +196,13 @@ module _ (base_of size_of : ℕ → ℕ) (outer : ℕ → Option ℕ) (globals :
     expression_below expr.Dollar at r line is h = (omega (arith, h), tt)
     expression_below (expr.Read p) at r line is h =
         let fits : r < n = omega (arith, h, waiting_one (expr.Read p)) in
-        below_append n _ _ (spot_below p at r line is (omega (arith, h, spot_room p 1 1 (omega arith)))) (reading_below n r _ fits (access_below r p is fits), tt)
+        below_append n _ _ (spot_below p at r line is (omega (arith, h, spot_room p 1 0))) (reading_below n r _ fits (access_below r p is fits), tt)
     expression_below (expr.Assign' p shape e) at r line is h =
         let w = waiting_boxed e in
         let room : r + held p + w ≤ n = omega (arith, h, room_at p w (1 + w) (omega arith)) in
         let fits : r < n = omega (arith, room, box_one e) in
         let o = boxed_below n (r + held p) e (omega (arith, room, box_one e)) in
-        below_append n _ _ (spot_below p at r line is.0 (omega (arith, h, spot_room p w (1 + w) (omega arith))))
+        below_append n _ _ (spot_below p at r line is.0 (omega (arith, h, spot_room p w (1 + w))))
         (below_append n _ _ (box_below e _ (r + held p) is.1 room) (writing_below n _ _ (access_below r p is.0 fits) o, ((fits, o), tt)))
     expression_below (expr.Update' op p shape e) at r line is h =
         let w = waiting_boxed e in
@@ -211,7 +211,7 @@ module _ (base_of size_of : ℕ → ℕ) (outer : ℕ → Option ℕ) (globals :
         let old : r + held p < n = omega (arith, room) in
         let o = boxed_below n (r + held p + 1) e (omega (arith, room, box_one e)) in
         let a = access_below r p is.0 fits in
-        below_append n _ _ (spot_below p at r line is.0 (omega (arith, h, spot_room p (1 + w) (2 + w) (omega arith))))
+        below_append n _ _ (spot_below p at r line is.0 (omega (arith, h, spot_room p (1 + w) (2 + w))))
         (reading_below n (r + held p) _ old a, below_append n _ _ (box_below e _ (r + held p + 1) is.1 (omega (arith, room))) ((old, old, o), (writing_below n _ _ a old, ((fits, old), tt))))
     expression_below (expr.Step p up after) at r line is h =
         let room : r + held p + 2 ≤ n = omega (arith, h, room_at p 2 3 (omega arith)) in
@@ -219,7 +219,7 @@ module _ (base_of size_of : ℕ → ℕ) (outer : ℕ → Option ℕ) (globals :
         let old : r + held p < n = omega (arith, room) in
         let new : r + held p + 1 < n = omega (arith, room) in
         let a = access_below r p is fits in
-        below_append n _ _ (spot_below p at r line is (omega (arith, h, spot_room p 2 3 (omega arith))))
+        below_append n _ _ (spot_below p at r line is (omega (arith, h, spot_room p 2 3)))
         (reading_below n (r + held p) _ old a, ((new, old, tt), (writing_below n _ _ a new, ((fits, last_below after old new), tt))))
       where
         last_below : (b : Bool) → r + held p < n → r + held p + 1 < n → (if b then r + held p else r + held p + 1) < n
@@ -259,7 +259,7 @@ module _ (base_of size_of : ℕ → ℕ) (outer : ℕ → Option ℕ) (globals :
         let here : r ≡ r + 0 = omega arith in
         below_append n _ _ (values_below values at r 0 r here is.1 room) (below_append n _ _ (arguments_below values line 0 r 0 r here room) (tt, (fits, tt)))
 
-    spot_below : (p : Spot) (at r line : ℕ) → SpotKnown globals MayCall known p → r + waiting_at p 0 1 ≤ n → CodeBelow n (spot_at base_of size_of outer at r line p)
+    pub spot_below : (p : Spot) (at r line : ℕ) → SpotKnown globals MayCall known p → r + waiting_at p 0 0 ≤ n → CodeBelow n (spot_at base_of size_of outer at r line p)
     spot_below (spot.Element' g shape index) at r line is h =
         let hi : r + waiting_boxed index ≤ n = grind (arith, h) in
         let fits : r < n = omega (arith, hi, box_one index) in

@@ -5,6 +5,7 @@ use Rattle.std.proofs.lemmas.Option.{slice_get_within}
 use Rattle.source_meaning.specs.declared.tree.Expr.{Expr}
 use Rattle.source_meaning.specs.declared.tree.StmtKind.{StmtKind, Row_of-Stmt, end_of-Stmt, more_of-Stmt, Held-StmtKind-If-2, None', Some'}
 use Rattle.source_meaning.specs.declared.tree.StmtKind.TheVariants as stmt
+use Rattle.source_meaning.specs.declared.tree.Spot.TheVariants.{Register}
 use Rattle.xmt_quads.specs.declared.code.Operand.{Operand}
 use Rattle.xmt_quads.specs.declared.code.Quad.TheVariants as quad
 use Rattle.xmt_quads.specs.declared.code.QuadFunction.{QuadFunction}
@@ -16,6 +17,7 @@ use Rattle.quad_code.specs.Statements.{Counts, behind, behind_all, in_spawn, opt
 use Rattle.quad_code.specs.Known.{OptionKnown, declared, all_declared, Region, InBlock, StatementKnown, SequenceKnown, ElseKnown}
 use Rattle.quad_code.specs.Whole.{texts_in, all_texts, else_texts}
 use Rattle.quad_code.proofs.NotedStatements.{TextsAt, texts_front, behind_texts, behind_all_texts}
+use Rattle.quad_limits.proofs.Sums.{sum_exists}
 use Rattle.quad_limits.proofs.Names.{Tables, CodeExists, exists-append, Ends, front_ends, back_ends, writing_exists, choice_exists, slot_exists, arguments_exist, expression_exists, values_exist}
 
 pub row_counts : (values : List Expr) → row_length (row_of values) ≡ length values
@@ -144,8 +146,10 @@ module _ (program : QuadProgram) (f : QuadFunction) (base_of size_of : ℕ → �
       where
         not_true : false ≡ true → ⊥
         not_true never = cc
-    statement_exists (stmt.Ps v r) known loop region is at leave again met line t leads ends = absurd is
-    statement_exists (stmt.Psm v p) known loop region is at leave again met line t leads ends = absurd is
+    statement_exists (stmt.Ps v r) known loop region is at leave again met line t leads ends =
+        sum_exists program f base_of size_of outer globals tables (MayCall region) (calls region) known variables v (Register r) at line is.0 is.1 ends
+    statement_exists (stmt.Psm v p) known loop region is at leave again met line t leads ends =
+        sum_exists program f base_of size_of outer globals tables (MayCall region) (calls region) known variables v p at line is.0 is.1 ends
     statement_exists (stmt.Print text values) known loop region is at leave again met line t leads ends =
         let row = row_of values in
         let cv = values_at base_of size_of outer at variables row in

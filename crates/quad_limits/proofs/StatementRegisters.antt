@@ -9,6 +9,7 @@ use Rattle.source_meaning.specs.declared.tree.Function.{Function}
 use Rattle.source_meaning.specs.declared.tree.Program.{Program}
 use Rattle.source_meaning.specs.declared.tree.StmtKind.{StmtKind, Row_of-Stmt, end_of-Stmt, more_of-Stmt, Held-StmtKind-If-2, None', Some'}
 use Rattle.source_meaning.specs.declared.tree.StmtKind.TheVariants as stmt
+use Rattle.source_meaning.specs.declared.tree.Spot.TheVariants.{Register}
 use Rattle.source_meaning.specs.Layout.{first_word, words_of}
 use Rattle.xmt_quads.specs.declared.code.Operand.{Operand}
 use Rattle.xmt_quads.specs.declared.code.Quad.{Quad}
@@ -24,7 +25,9 @@ use Rattle.quad_code.specs.Known.{OptionKnown, declared, all_declared, Region, I
 use Rattle.quad_code.specs.Functions.{outer_of, parameter_code, parameters_code, function_code}
 use Rattle.quad_code.specs.Whole.{MayCall, codes_from, codes_of, IsCodeOf, IsKnown}
 use Rattle.quad_code.proofs.KeptCode.{declared_cases}
-use Rattle.quad_limits.specs.Waiting.{waiting_in, waiting_option, waiting_statement, waiting_statements, waiting_else, function_registers}
+use Rattle.tree_measures.specs.Waiting.{waiting_in}
+use Rattle.quad_limits.specs.Waiting.{waiting_option, waiting_statement, waiting_statements, waiting_else, function_registers}
+use Rattle.quad_limits.proofs.Sums.{sum_room, index_room, sum_below}
 use Rattle.quad_limits.proofs.Registers.{OperandBelow, RegistersBelow, CodeBelow, AccessBelow, below_append, operand_below, writing_below, waiting_one, expression_below, values_below, arguments_below, are_below}
 
 -- ---- choices and loops
@@ -153,8 +156,10 @@ module _ (base_of size_of : ℕ → ℕ) (outer : ℕ → Option ℕ) (globals :
           below_append n cl _ (whole_below first known low region is.0 at hf)
           (below_append n ch _ (expression_below base_of size_of outer globals (calls region) known n (lower known low) last.kind at1 (variables + 1) last.at.line is.1 hl)
           ((value_below first hf, operand_below n (variables + 1) last.kind (omega (arith, hl, waiting_one last.kind))), below_append n b (one line quad.Join) (sequence_below body known low false InBlock is.3 (at2 + 1) leave again (in_spawn met) hb) (tt, tt)))
-      statement_below (stmt.Ps v r) known low loop region is at leave again met line h = absurd is
-      statement_below (stmt.Psm v p) known low loop region is at leave again met line h = absurd is
+      statement_below (stmt.Ps v r) known low loop region is at leave again met line h =
+          sum_below base_of size_of outer globals (calls region) known n (lower known low) variables v (Register r) at line is.0 is.1 (omega (arith, h)) (omega (arith, h))
+      statement_below (stmt.Psm v p) known low loop region is at leave again met line h =
+          sum_below base_of size_of outer globals (calls region) known n (lower known low) variables v p at line is.0 is.1 (omega (arith, h, sum_room p)) (omega (arith, h, index_room p))
       statement_below (stmt.Print text values) known low loop region is at leave again met line h =
           let row = row_of values in
           let here : variables ≡ variables + 0 = omega arith in

@@ -8,6 +8,7 @@ use Rattle.source_meaning.specs.declared.tree.Program.{Program}
 use Rattle.source_meaning.specs.declared.tree.Stmt.{Stmt}
 use Rattle.source_meaning.specs.declared.tree.StmtKind.{StmtKind, Row_of-Stmt, end_of-Stmt, more_of-Stmt, Held-StmtKind-If-2, None', Some'}
 use Rattle.source_meaning.specs.declared.tree.StmtKind.TheVariants as stmt
+use Rattle.source_meaning.specs.declared.tree.Spot.TheVariants.{Register}
 use Rattle.source_meaning.specs.Layout.{first_word, words_of}
 use Rattle.xmt_quads.specs.declared.code.Operand.{Operand}
 use Rattle.xmt_quads.specs.declared.code.Operand.TheVariants.{Literal}
@@ -21,7 +22,8 @@ use Rattle.quad_code.specs.Expressions.{operand_of, writing, access_of_slot, cod
 use Rattle.quad_code.specs.Statements.{Counts, behind, behind_all, in_spawn, option_operand, expression_at, option_at, statement_at, sequence_at, else_at}
 use Rattle.quad_code.specs.Functions.{outer_of, parameter_code, parameters_code, function_code}
 use Rattle.quad_code.specs.Whole.{codes_from, codes_of, IsCodeOf}
-use Rattle.quad_limits.specs.Nodes.{expression_nodes, row_nodes, nodes_of_expressions, option_nodes, statement_nodes, statement_row_nodes, else_nodes, nodes_of_statements, function_nodes, program_nodes}
+use Rattle.tree_measures.specs.Nodes.{expression_nodes, row_nodes, nodes_of_expressions, option_nodes, statement_nodes, statement_row_nodes, else_nodes, nodes_of_statements, function_nodes, program_nodes}
+use Rattle.quad_limits.proofs.Sums.{sum_weight}
 use Rattle.quad_limits.proofs.Weights.{code_weight, weight_append, writing_weight, weigh, choice_weight, expression_weight, values_weight}
 
 -- the nodes of a list, by its row
@@ -122,8 +124,8 @@ module _ (base_of size_of : ℕ → ℕ) (outer : ℕ → Option ℕ) (variables
         let ca = arguments_of base_of size_of outer line 0 variables row in
         let last : List Lined = record { quad = quad.Print n.printed; line = line; note = Prints text } ∷ [] in
         omega (arith, weight_append cv (ca ++ last), weight_append ca last, values_weight base_of size_of outer row at line 0 variables, row_is values)
-    statement_weight (stmt.Ps v r) at leave again n line = omega arith
-    statement_weight (stmt.Psm v p) at leave again n line = omega arith
+    statement_weight (stmt.Ps v r) at leave again n line = omega (arith, sum_weight base_of size_of outer variables v (Register r) at line)
+    statement_weight (stmt.Psm v p) at leave again n line = omega (arith, sum_weight base_of size_of outer variables v p at line)
 
     pub sequence_weight : {m : _} (row : Row_of-Stmt m) (at leave again : ℕ) (n : Counts) → code_weight (sequence_at base_of size_of outer variables at leave again n row) ≤ 64 * statement_row_nodes row
     sequence_weight end_of-Stmt at leave again n = omega arith

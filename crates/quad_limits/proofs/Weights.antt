@@ -4,7 +4,7 @@ use Rattle.source_meaning.specs.declared.tree.ExprKind.{ExprKind, Row_of-Expr, e
 use Rattle.source_meaning.specs.declared.tree.ExprKind.TheVariants as expr
 use Rattle.source_meaning.specs.declared.tree.Spot.{Spot}
 use Rattle.source_meaning.specs.declared.tree.Spot.TheVariants as spot
-use Rattle.quad_limits.specs.Nodes.{expression_nodes, spot_nodes, row_nodes}
+use Rattle.tree_measures.specs.Nodes.{expression_nodes, spot_nodes, row_nodes}
 use Rattle.xmt_base.specs.declared.operators.BinOp.TheVariants.{Ne}
 use Rattle.xmt_quads.specs.Program.{weight}
 use Rattle.quad_code.specs.Lined.{Lined, lined, choice, code_then, one}
@@ -24,7 +24,7 @@ pub weight_append : (a b : List Lined) → code_weight (a ++ b) ≡ code_weight 
 weight_append [] b = omega arith
 weight_append (l ∷ a) b = let rest = weight_append a b in omega (arith, rest)
 
-reading_weight : (r : ℕ) (a : Access) → weight (reading r a) ≡ 4
+pub reading_weight : (r : ℕ) (a : Access) → weight (reading r a) ≡ 4
 reading_weight r (Own x) = refl
 reading_weight r (Common place) = refl
 
@@ -118,7 +118,7 @@ module _ (base_of size_of : ℕ → ℕ) (outer : ℕ → Option ℕ) where
         let last : List Lined = lined line (quad.Call function) ∷ one line (quad.Result r) in
         omega (arith, weight_append vs (args ++ last), weight_append args last, values_weight values at line 0 r)
 
-    spot_weight : (p : Spot) (at r line : ℕ) → code_weight (spot_at base_of size_of outer at r line p) ≤ 64 * spot_nodes p + 4
+    pub spot_weight : (p : Spot) (at r line : ℕ) → code_weight (spot_at base_of size_of outer at r line p) ≤ 64 * spot_nodes p + 4
     spot_weight (spot.Element' g shape index) at r line = weigh _ _ (64 * row_nodes index) 4 _ (box_weight index at r) (omega arith) (omega arith)
     spot_weight (spot.Global g) at r line = omega arith
     spot_weight (spot.Register x) at r line = omega arith

@@ -9,7 +9,7 @@ use Rattle.xmt_quads.specs.Program.{weight_of}
 use Rattle.xmt_quads.specs.WellFormed.{AreBelow, NamesExist}
 use Rattle.quad_code.specs.Functions.{outer_of}
 use Rattle.quad_code.specs.Whole.{IsCodeOf, IsKnown}
-use Rattle.quad_limits.specs.Nodes.{program_nodes}
+use Rattle.tree_measures.specs.Nodes.{program_nodes}
 use Rattle.quad_limits.specs.Waiting.{function_registers}
 
 -- the weights add up to at most 64 for each node of the tree
