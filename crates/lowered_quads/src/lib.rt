@@ -1,0 +1,10 @@
+//! To which quads a program is lowered, and that they are well formed.
+#![tactic(auto)]
+
+ghost use Rattle.lowered_quads.specs.Law.{LoweredProgramsAreWellFormed};
+
+/// The quads to which a checked program within the limits is lowered are well formed.
+/// It does nothing when it runs.
+pub fn lowered_programs_are_well_formed()
+    ensures { LoweredProgramsAreWellFormed }
+{}
