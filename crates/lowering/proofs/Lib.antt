@@ -1,0 +1,9 @@
+pub mod Appends
+pub mod Laid
+pub mod Rings
+pub mod Sequels
+pub mod Branches
+pub mod Marks
+pub mod Wholes
+pub mod Programs
+pub mod Lowered
