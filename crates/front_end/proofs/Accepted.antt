@@ -18,6 +18,7 @@ use Rattle.spawn_check.specs.declared.refusal.SpawnKind.{SpawnKind}
 use Rattle.spawn_check.specs.Table as blocks
 use Rattle.spawn_check.specs.Words.{words_of}
 use Rattle.front_end.specs.declared.refusal.SourceKind.{SourceKind}
+use Rattle.front_end.specs.Law.{SourcesHaveOneProgram, BrokenSourcesHaveNone}
 use Rattle.front_end.specs.Refused.{HasTokens, IsTree, HasNoTree, HasManyWords, OfTokens, OfTree, OfProgram, BreaksTokens, IsAccepted, Breaks, length_is_broken, tokens_are_broken, brackets_are_broken, grammar_is_broken, names_are_broken, blocks_are_broken, words_are_broken}
 
 same_tokens : (source : List ℕ) (ts us : List Token) → HasTokens source ts → HasTokens source us → ts ≡ us
@@ -80,3 +81,10 @@ module _ (source : List ℕ) (p : Program) (is : IsAccepted source p) where
   breaks_none kind at (blocks_are_broken k is_kind h) =
       is.blocks k at (of_program (λ (q : Program). blocks.IsFirst q (record { kind = k; place = at })) h).met
   breaks_none kind at (words_are_broken is_kind place h) = absurd (omega (arith, (of_program HasManyWords h).many, is.few_words))
+
+pub broken_has_none : BrokenSourcesHaveNone
+broken_has_none source kind place broken program is = breaks_none source program is kind place broken
+
+-- one source has one program
+pub accepted_as_one : SourcesHaveOneProgram
+accepted_as_one source p q is other = of_program source q other (λ (program : Program). p ≡ program) (is.tokens, is.are_tokens, (is.tree, is.is_tree, (p, is.resolved, refl)))

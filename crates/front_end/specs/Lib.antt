@@ -1,3 +1,4 @@
 pub mod Refused
 pub mod Kinds
 pub mod Reads
+pub mod Law

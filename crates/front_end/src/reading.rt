@@ -1,6 +1,7 @@
 //! Reads a source: its tokens, its tree, its program.
 ghost use Rattle.std.specs.Prelude.{◌≤◌, ◌^◌, length, IfOk};
 ghost use Rattle.checked_programs.specs.Checked.{IsChecked};
+ghost use Rattle.checked_programs.specs.Limits.{IsWithinLimits, HasFewNodes};
 ghost use Rattle.front_end.specs.Refused.{HasTokens, IsTree};
 ghost use Rattle.front_end.specs.Reads.{Fronts, ReadsTokens, ReadsTree, ChecksProgram};
 
@@ -20,10 +21,12 @@ const BYTES: usize = 1 << 20;
 const FIRST: Place = Place { line: 1, column: 1 };
 
 /// The program of a source. A source that breaks a rule is refused, at the place of the first one.
-#[tactic(auto, using(crate::proofs::Checked::front_checked))]
+#[tactic(auto, using(crate::proofs::Checked::front_checked, crate::proofs::Checked::front_limits, crate::proofs::Checked::front_nodes))]
 pub fn front(alloc: Global, source: &[u8]) -> Result<Program, SourceRefusal>
     ensures answer { Fronts source.now result }
     ensures checked { IfOk result IsChecked }
+    ensures limits { IfOk result IsWithinLimits }
+    ensures nodes { IfOk result HasFewNodes }
 {
     read(alloc, source)
 }

@@ -80,8 +80,6 @@ pub enum SourceKind {
     /// The globals, and 257 times the variables that blocks share in one function, have more than
     /// 1,048,576 words.
     TooMuchMemory,
-    /// It isn't one of the thin sources, which are all that is compiled so far.
-    NotThin,
 }
 
 /// A source is refused.

@@ -1,6 +1,0 @@
-pub mod Code
-pub mod Emitted
-pub mod Encoding
-pub mod Image
-pub mod Laws
-pub mod Thin
