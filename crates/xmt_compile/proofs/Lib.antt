@@ -12,5 +12,6 @@ pub mod Working
 pub mod Implements
 pub mod Rows
 mod EmptyRow
+mod PlainPrograms
 pub mod Compiled
 pub mod Picked

@@ -12,7 +12,8 @@ use Rattle.source_meaning.specs.Term.{Code, Done}
 use Rattle.source_meaning.proofs.Written.{function, program_of}
 use Rattle.xmt_isa.specs.declared.image.Image.{Image}
 use Rattle.xmt_isa.specs.declared.image.Instr.{Instr}
-use Rattle.xmt_compile.specs.Implements.{register_values, reached, is_under_way, Implements}
+use Rattle.lowered_quads.specs.Lowered.{register_values}
+use Rattle.xmt_compile.specs.Implements.{reached, is_under_way, Implements}
 
 -- ---- what definitions compute to
 

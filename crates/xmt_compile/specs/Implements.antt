@@ -1,5 +1,5 @@
 -- What it is for an image to implement a program.
-use Rattle.std.specs.Prelude.{◌≡◌, ℕ, ◌+◌, ◌*◌, ◌≤◌, nat_lt, Bool, true, false, not, ◌&&◌, IsTrue, List, ◌++◌, length, map, take, drop, replicate, count_by, slice_get, slice_index, Some}
+use Rattle.std.specs.Prelude.{◌≡◌, ℕ, ◌+◌, ◌*◌, ◌≤◌, nat_lt, Bool, true, false, not, ◌&&◌, IsTrue, List, length, take, drop, count_by, slice_get, slice_index, Some}
 use Rattle.std.specs.Option.{option_map_or}
 use Rattle.std.specs.List.{Contains}
 use Rattle.xmt_base.specs.declared.values.TrapKind.{TrapKind}
@@ -8,6 +8,7 @@ use Rattle.source_meaning.specs.declared.tree.Program.{Program}
 use Rattle.source_meaning.specs.Layout.{all_words, opening_words, symbols_from}
 use Rattle.source_meaning.specs.Run as source
 use Rattle.source_meaning.specs.Run.{Configuration, has_ended, is_over, start, thread_numbers, words_held}
+use Rattle.lowered_quads.specs.Lowered.{register_values}
 use Rattle.xmt_isa.specs.declared.image.Image.{Image}
 use Rattle.xmt_isa.specs.declared.unit.Unit.{Unit}
 use Rattle.xmt_isa.specs.declared.unit.Next.TheVariants as next
@@ -18,10 +19,6 @@ use Rattle.xmt_isa.specs.Opening.{opening}
 use Rattle.xmt_isa.specs.Picked.{is_active, is_spawned}
 use Rattle.xmt_isa.specs.Step.{next_of}
 use Rattle.xmt_isa.specs.Valid.{IsValid}
-
--- the eight registers: those of the program with what they open with, and 0 behind them
-abbrev pub register_values : Program → List ℕ
-register_values program = take 8 (map (λ r. r.opening) program.registers ++ replicate 8 0)
 
 -- an image has the globals and the registers of a program, with what they open with
 pub record OpensWith (image : Image) (program : Program) : Type 0 where

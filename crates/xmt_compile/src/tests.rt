@@ -5,19 +5,24 @@ use xmt_base::Place;
 // Sources, and how many instructions, words and names their images have, or none.
 #[test]
 fn sources_are_compiled(rt: HostRuntime) -> Result<(), Fail> {
-    let rows: [(&str, Option<(usize, usize, usize)>); 5] = [
-        ("main(){}", Some((1, 0, 0))),
-        ("int x; int A[3]; main() { }", Some((1, 4, 2))),
-        ("int x; main() { x = 5; }", Some((3, 1, 1))),
-        ("main() { spawn(0, 3) { } }", Some((5, 0, 0))),
-        ("main() { while (1) ; }", None),
+    let rows: [(&str, Option<(usize, usize, usize)>); 7] = [
+        ("main(){}", Some((2, 0, 0))),
+        ("int x; int A[3]; main() { }", Some((2, 4, 2))),
+        ("int x; main() { x = 5; }", Some((6, 1, 1))),
+        ("int x; main() { x = x + 2; }", Some((12, 1, 1))),
+        ("main() { spawn(0, 3) { } }", Some((6, 0, 0))),
+        ("main() { while (1) ; }", Some((7, 0, 0))),
+        ("main() { x = 1; }", None),
     ];
     for (source, expected) in rows {
         let found = match compile(rt.alloc(), source.as_bytes()) {
             Ok(image) => Some((image.code.len(), image.words.len(), image.symbols.len())),
             Err(refusal) => {
-                let place = Place { line: 1, column: 1 };
-                let wanted = SourceRefusal::Refused(SourceKind::NotThin, place);
+                let place = Place {
+                    line: 1,
+                    column: 10,
+                };
+                let wanted = SourceRefusal::Refused(SourceKind::Unknown, place);
                 assert!(rt; refusal == wanted, "the refusal of {source}");
                 None
             }

@@ -5,13 +5,13 @@ use Rattle.xmt_base.specs.declared.values.Place.{Place}
 use Rattle.xmt_base.specs.declared.values.Trap.{Trap}
 use Rattle.xmt_base.specs.Host.{FileMap, IsWholeFile, Rose}
 use Rattle.source_meaning.specs.declared.tree.Program.{Program}
-use Rattle.thin_source.specs.Thin.{IsThin}
-use Rattle.thin_source.proofs.Whole.{one_program}
+use Rattle.front_end.specs.Refused.{IsAccepted}
+use Rattle.front_end.proofs.Accepted.{accepted_as_one}
 use Rattle.xmt_isa.specs.declared.run.Choice.TheVariants as choice
 use Rattle.xmt_isa.specs.declared.run.SimOptions.{SimOptions}
 use Rattle.xmt_top.specs.Completeness.{HasProgramIn, EndsWithin, MustEnd}
 use Rattle.front_end.specs.declared.refusal.SourceKind.{SourceKind}
-use Rattle.xmt_top.specs.Sources.{Breaks, IsRefused}
+use Rattle.xmt_top.specs.Sources.{IsBroken, IsRefused}
 use Rattle.xmt_top.specs.declared.top.Outcome.{Outcome}
 use Rattle.xmt_top.specs.declared.top.Outcome.TheVariants as outcome
 use Rattle.xmt_top.specs.Runs.{HasRun}
@@ -25,18 +25,18 @@ module _ (P : Program → Type 0) (name : List ℕ) where
   not_refused None kind place has refused = absurd has
   not_refused (Some files) kind place has refused = by_file (files name) has (refused files refl)
     where
-      by_file : (o : Option (List ℕ)) → IsSomeAnd o (λ source. (program : Program) × IsThin source program × P program) → IsSomeAnd o (Breaks kind place) → ⊥
+      by_file : (o : Option (List ℕ)) → IsSomeAnd o (λ source. (program : Program) × IsAccepted source program × P program) → IsSomeAnd o (IsBroken kind place) → ⊥
       by_file None has none = absurd has
       by_file (Some source) has none = none.1 has.0 has.1
 
   -- the program of the whole file is that one
-  of_whole : (told : Option FileMap) (source : List ℕ) (program : Program) → HasProgramIn told name P → IsWholeFile told name source → IsThin source program → P program
-  of_whole None source program has whole thin = absurd has
-  of_whole (Some files) source program has whole thin = by_file (files name) (whole files refl) has
+  of_whole : (told : Option FileMap) (source : List ℕ) (program : Program) → HasProgramIn told name P → IsWholeFile told name source → IsAccepted source program → P program
+  of_whole None source program has whole is_program = absurd has
+  of_whole (Some files) source program has whole is_program = by_file (files name) (whole files refl) has
     where
-      by_file : (o : Option (List ℕ)) → o ≡ Some source → IsSomeAnd o (λ source. (program : Program) × IsThin source program × P program) → P program
+      by_file : (o : Option (List ℕ)) → o ≡ Some source → IsSomeAnd o (λ source. (program : Program) × IsAccepted source program × P program) → P program
       by_file None is has = cc
-      by_file (Some other) is has = let same : other ≡ source = cc in subst P (one_program source has.0 program (subst (λ s. IsThin s has.0) same has.1) thin) has.2
+      by_file (Some other) is has = let same : other ≡ source = cc in subst P (accepted_as_one source has.0 program (subst (λ s. IsAccepted s has.0) same has.1) is_program) has.2
 
 module _ (told : Option FileMap) (name : List ℕ) (options : SimOptions) (before now : Option (List ℕ)) (must : MustEnd told name options.budget) where
   -- a run that must end comes to no trap

@@ -2,7 +2,7 @@
 use Rattle.std.proofs.Common.{◌≡◌, ℕ, ◌<◌, ◌^◌, List, length, Option, Some, None, Err, inl, refl, sym, subst, arith}
 use Rattle.std.specs.Prelude.{IsSomeAnd}
 use Rattle.xmt_base.specs.Host.{FileMap, IsWholeFile, IsLonger}
-use Rattle.thin_source.specs.Thin.{HasNoProgram}
+use Rattle.front_end.specs.Law.{HasNoProgram}
 use Rattle.xmt_base.specs.declared.values.Place.{Place}
 use Rattle.front_end.specs.declared.refusal.SourceKind.{SourceKind}
 use Rattle.front_end.specs.declared.refusal.SourceKind.TheVariants as rule
@@ -15,18 +15,18 @@ use Rattle.xmt_compile.specs.Compiles.{Compiles}
 use Rattle.xmt_top.specs.declared.top.Outcome.{Outcome}
 use Rattle.xmt_top.specs.declared.top.Outcome.TheVariants as ended
 use Rattle.xmt_top.specs.Outcomes.{HasEnded, IsGivenUp, given_up}
-use Rattle.xmt_top.specs.Sources.{Breaks, IsRefused, MustBeRefused}
+use Rattle.xmt_top.specs.Sources.{IsBroken, IsRefused, MustBeRefused}
 
 -- a source of more than 2^20 bytes has no program
-longer : (o : Option (List ℕ)) → IsSomeAnd o (λ bytes. 2 ^ 20 < length bytes) → IsSomeAnd o (Breaks rule.TooLong first_place)
+longer : (o : Option (List ℕ)) → IsSomeAnd o (λ bytes. 2 ^ 20 < length bytes) → IsSomeAnd o (IsBroken rule.TooLong first_place)
 longer None h = absurd h
-longer (Some bytes) h = (inl (length_is_broken refl refl h), λ program thin. absurd (omega (arith, h, thin.short)))
+longer (Some bytes) h = (length_is_broken refl refl h, λ program is. absurd (omega (arith, h, is.are_tokens.short)))
 
 pub refused_longer : (told : Option FileMap) (name : List ℕ) → IsLonger told name (2 ^ 20) → IsRefused told name rule.TooLong first_place
 refused_longer told name h = λ files is. longer (files name) (h files is)
 
-pub refused_whole : (told : Option FileMap) (name bytes : List ℕ) (kind : SourceKind) (place : Place) → IsWholeFile told name bytes → Breaks kind place bytes → IsRefused told name kind place
-refused_whole told name bytes kind place whole h = λ files is. subst (λ (o : Option (List ℕ)). IsSomeAnd o (Breaks kind place)) (sym (whole files is)) h
+pub refused_whole : (told : Option FileMap) (name bytes : List ℕ) (kind : SourceKind) (place : Place) → IsWholeFile told name bytes → IsBroken kind place bytes → IsRefused told name kind place
+refused_whole told name bytes kind place whole h = λ files is. subst (λ (o : Option (List ℕ)). IsSomeAnd o (IsBroken kind place)) (sym (whole files is)) h
 
 pub whole_refused : (told : Option FileMap) (name bytes : List ℕ) → MustBeRefused told name → IsWholeFile told name bytes → HasNoProgram bytes
 whole_refused None name bytes must whole = absurd must

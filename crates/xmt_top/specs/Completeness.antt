@@ -7,16 +7,16 @@ use Rattle.xmt_base.specs.Host.{FileMap}
 use Rattle.source_meaning.specs.declared.tree.Program.{Program}
 use Rattle.source_meaning.specs.Layout.{opening_words}
 use Rattle.source_meaning.specs.Run.{IsLegal, start, traps}
-use Rattle.thin_source.specs.Thin.{IsThin}
+use Rattle.front_end.specs.Refused.{IsAccepted}
 use Rattle.xmt_compile.specs.Implements.{reached}
 
 -- the host tells its files, the file is there, and its bytes are the source of a program of which this holds
 abbrev pub HasProgramIn : Option FileMap → List ℕ → (Program → Type 0) → Type 0
-HasProgramIn told name P = IsSomeAnd told (λ files. IsSomeAnd (files name) (λ source. (program : Program) × IsThin source program × P program))
+HasProgramIn told name P = IsSomeAnd told (λ files. IsSomeAnd (files name) (λ source. (program : Program) × IsAccepted source program × P program))
 
--- the file holds a source
-abbrev pub IsAccepted : Option FileMap → List ℕ → Type 0
-IsAccepted told name = HasProgramIn told name (λ program. Unit {0})
+-- the file holds the source of a program
+abbrev pub HoldsProgram : Option FileMap → List ℕ → Type 0
+HoldsProgram told name = HasProgramIn told name (λ program. Unit {0})
 
 -- by no legal schedule does the program come to a trap or take more steps than a number, for which the budget is enough
 pub record EndsWithin (budget : ℕ) (program : Program) : Type 0 where
@@ -25,6 +25,6 @@ pub record EndsWithin (budget : ℕ) (program : Program) : Type 0 where
   pub ends : (schedule : List ℕ) → IsLegal program (start program (opening_words program.globals)) schedule → length schedule ≤ most
   pub enough : 64 * (most + 2) ≤ budget
 
--- the file holds a source, and it does so
+-- the file holds the source of a program, and it does so
 abbrev pub MustEnd : Option FileMap → List ℕ → (budget : ℕ) → Type 0
 MustEnd told name budget = HasProgramIn told name (EndsWithin budget)

@@ -61,7 +61,6 @@ rule_name rule.Nested = codes "Nested"
 rule_name rule.PrintInside = codes "PrintInside"
 rule_name rule.CallReachesSpawn = codes "CallReachesSpawn"
 rule_name rule.TooMuchMemory = codes "TooMuchMemory"
-rule_name rule.NotThin = codes "NotThin"
 
 -- the line for a source that breaks a rule at a place; it isn't unfolded, so that proofs carry it as it stands
 unfoldable pub refusal_line : (file : List ℕ) → SourceKind → Place → List ℕ

@@ -11,7 +11,7 @@ use Rattle.xmt_isa.specs.declared.run.Choice.TheVariants as choice
 use Rattle.xmt_isa.specs.declared.run.SimOptions.{SimOptions}
 use Rattle.xmt_isa.specs.Opening.{begins}
 use Rattle.xmt_isa.specs.Picked.{PickedRun, picked, choice_of}
-use Rattle.thin_source.specs.Thin.{IsThin}
+use Rattle.front_end.specs.Refused.{IsAccepted}
 use Rattle.xmt_compile.specs.Implements.{Implements}
 use Rattle.xmt_compile.specs.Ended.{HasDone, HasPrinted}
 use Rattle.xmt_cli.specs.Given.{Text}
@@ -43,7 +43,7 @@ pub record HasRun (files : Option FileMap) (file : Text) (options : SimOptions) 
   pub source : List ℕ
   pub whole : IsWholeFile files file source
   pub program : Program
-  pub is_program : IsThin source program
+  pub is_program : IsAccepted source program
   pub image : Image
   pub implements : Implements program image
   pub output : List ℕ
@@ -56,7 +56,7 @@ pub record HasRunPart (files : Option FileMap) (file : Text) (options : SimOptio
   pub source : List ℕ
   pub whole : IsWholeFile files file source
   pub program : Program
-  pub is_program : IsThin source program
+  pub is_program : IsAccepted source program
   pub image : Image
   pub implements : Implements program image
   pub output : List ℕ

@@ -4,9 +4,9 @@ use Rattle.xmt_base.specs.declared.values.Place.{Place}
 use Rattle.std.specs.declared.option.Option.{Option}
 use Rattle.std.specs.Option.{ForSome}
 use Rattle.xmt_base.specs.Host.{FileMap}
-use Rattle.thin_source.specs.Thin.{HasNoProgram}
 use Rattle.front_end.specs.declared.refusal.SourceKind.{SourceKind}
-use Rattle.thin_reading.specs.Reads.{IsRefusedFor}
+use Rattle.front_end.specs.Refused.{Breaks}
+use Rattle.front_end.specs.Law.{HasNoProgram}
 use Rattle.xmt_top.specs.Complaints.{Complains}
 use Rattle.xmt_top.specs.Messages.{refusal_line}
 
@@ -15,12 +15,12 @@ abbrev pub HasNoProgramIn : FileMap → List ℕ → Type 0
 HasNoProgramIn files name = IsSomeAnd (files name) HasNoProgram
 
 -- the source breaks this rule first, at this place, and has no program
-abbrev pub Breaks : SourceKind → Place → List ℕ → Type 0
-Breaks kind place source = IsRefusedFor source kind place × HasNoProgram source
+abbrev pub IsBroken : SourceKind → Place → List ℕ → Type 0
+IsBroken kind place source = Breaks source kind place × HasNoProgram source
 
 -- if the host tells its files, the file is there, and so does its source
 abbrev pub IsRefused : Option FileMap → List ℕ → SourceKind → Place → Type 0
-IsRefused told name kind place = ForSome told (λ files. IsSomeAnd (files name) (Breaks kind place))
+IsRefused told name kind place = ForSome told (λ files. IsSomeAnd (files name) (IsBroken kind place))
 
 -- the source breaks a rule, and the line that says which and where was written
 abbrev pub HasRefused : Option FileMap → List ℕ → (faults_before faults_now : ℕ) → (err_before err_now : Option (List ℕ)) → Type 0

@@ -67,7 +67,6 @@ fn rule_name(kind: SourceKind) -> &'static str
         SourceKind::PrintInside => "PrintInside",
         SourceKind::CallReachesSpawn => "CallReachesSpawn",
         SourceKind::TooMuchMemory => "TooMuchMemory",
-        SourceKind::NotThin => "NotThin",
     }
 }
 

@@ -39,8 +39,8 @@ fn run(
     Ok((status.code, host))
 }
 
-// Thin sources with code, output and error, whatever the units and the seed are.
-static THIN: [(&str, u8, &str, &str); 37] = [
+// Sources with code, output and error, whatever the units and the seed are.
+static SOURCES: [(&str, u8, &str, &str); 37] = [
     (SQUARES, 0, "18\n", ""),
     (
         "int A[2]; main() { spawn(0, 2) { A[$] = 7; } }",
@@ -241,7 +241,7 @@ static THIN: [(&str, u8, &str, &str); 37] = [
 ];
 
 // Sources that are refused, and how the line on the error stream ends.
-static OTHERS: [(&str, &str); 29] = [
+static OTHERS: [(&str, &str); 25] = [
     // the tokens
     ("3x", "1:1: BadNumber"),
     ("main(){}\n@", "2:1: BadByte"),
@@ -281,11 +281,6 @@ static OTHERS: [(&str, &str); 29] = [
     ),
     // words
     ("int A[1048577]; main() { }", "1:1: TooMuchMemory"),
-    // programs that aren't thin
-    ("main() { while (1) ; }", "1:1: NotThin"),
-    ("main() { printf(\"%d\\n\", 2147483648); }", "1:1: NotThin"),
-    ("main() { } // comment", "1:1: NotThin"),
-    ("main() { spawn(0, 1) { } spawn(0, 1) { } }", "1:1: NotThin"),
 ];
 
 fn others() -> &'static [(&'static str, &'static str)] {
@@ -297,13 +292,13 @@ fn refusal(alloc: Global, end: &str) -> Result<String, Fail> {
     Ok(format!(in alloc; "xmt: p.xmtc:{end}\n")?)
 }
 
-fn thin_sources() -> &'static [(&'static str, u8, &'static str, &'static str)] {
-    &THIN
+fn sources() -> &'static [(&'static str, u8, &'static str, &'static str)] {
+    &SOURCES
 }
 
-// The first thin source whose run under these words gives something else than its row.
+// The first source whose run under these words gives something else than its row.
 fn differing(rt: &HostRuntime, words: &str) -> Result<Option<&'static str>, Fail> {
-    for row in thin_sources() {
+    for row in sources() {
         let (found, host) = run(rt, words, row.0.as_bytes(), None)?;
         if found != row.1
             || host.out.as_slice() != row.2.as_bytes()

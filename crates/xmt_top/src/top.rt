@@ -11,7 +11,7 @@ ghost use Rattle.xmt_top.specs.declared.top.Outcome.TheVariants as ended;
 ghost use Rattle.xmt_top.specs.Runs.{ForJob, HasRun, HasRunPartOrNot, HasTrapped, HasSpent};
 ghost use Rattle.xmt_top.specs.Outcomes.{HasEnded, HasEndedOn, IsGivenUp, given_up};
 ghost use Rattle.xmt_top.specs.Sources.{HasRefused, MustBeRefused};
-ghost use Rattle.xmt_top.specs.Completeness.{IsAccepted, MustEnd};
+ghost use Rattle.xmt_top.specs.Completeness.{HoldsProgram, MustEnd};
 ghost use Rattle.xmt_top.specs.Complaints.{Complains};
 ghost use Rattle.xmt_top.specs.Messages.{no_job_line, fault_line, refusal_line, trap_line, spent_line};
 
@@ -50,9 +50,9 @@ enum Outcome {
     NoMemory,
 }
 
-/// Does what the words of a command line say, over a host: the words `run` and FILE run the thin
-/// source in that file on a master and control units, as many as the options say, in the order
-/// that the seed picks. With any code but 0 one line goes to the error stream. No file is written.
+/// Does what the words of a command line say, over a host: the words `run` and FILE run the source
+/// in that file on a master and control units, as many as the options say, in the order that the
+/// seed picks. With any code but 0 one line goes to the error stream. No file is written.
 pub fn xmt<H: Host>(alloc: Global, words: &[String], host: &mut H) -> Status
     // Which codes there are, and when. Want of memory, code 7, is free.
     ensures codes { Contains (0 ∷ 1 ∷ 2 ∷ 4 ∷ 5 ∷ 6 ∷ 7 ∷ []) result.code }
@@ -65,7 +65,7 @@ pub fn xmt<H: Host>(alloc: Global, words: &[String], host: &mut H) -> Status
     ensures fault { result.code ≡ 6 → Rose (H.faults host.old) (H.faults host.new) }
     // Where the host meets no fault, a source ends with 0, 4 or 5, and with 0 where it neither traps nor takes more steps
     // than the budget is enough for.
-    ensures accepted { ¬ Rose (H.faults host.old) (H.faults host.new) → ForJob (map string_bytes words.now) (λ file options. IsAccepted (H.files host.old) file → Contains (0 ∷ 4 ∷ 5 ∷ 7 ∷ []) result.code) }
+    ensures accepted { ¬ Rose (H.faults host.old) (H.faults host.new) → ForJob (map string_bytes words.now) (λ file options. HoldsProgram (H.files host.old) file → Contains (0 ∷ 4 ∷ 5 ∷ 7 ∷ []) result.code) }
     ensures complete { ¬ Rose (H.faults host.old) (H.faults host.new) → ForJob (map string_bytes words.now) (λ file options. MustEnd (H.files host.old) file options.budget → Contains (0 ∷ 7 ∷ []) result.code) }
     ensures no_fault { H.steady host.old → ForJob (map string_bytes words.now) (λ file options. HasFile (H.files host.old) file) → H.faults host.new ≡ H.faults host.old }
 
@@ -114,7 +114,7 @@ fn run_file<H: Host>(alloc: Global, file: &str, options: &SimOptions, host: &mut
     ensures refused { result.code ≡ 1 → HasRefused (H.files host.old) file.now (H.faults host.old) (H.faults host.new) (H.err host.old) (H.err host.new) }
     ensures refused_only { MustBeRefused (H.files host.old) file.now → Contains (1 ∷ 6 ∷ 7 ∷ []) result.code }
     ensures fault { result.code ≡ 6 → Rose (H.faults host.old) (H.faults host.new) }
-    ensures accepted { ¬ Rose (H.faults host.old) (H.faults host.new) → IsAccepted (H.files host.old) file.now → Contains (0 ∷ 4 ∷ 5 ∷ 7 ∷ []) result.code }
+    ensures accepted { ¬ Rose (H.faults host.old) (H.faults host.new) → HoldsProgram (H.files host.old) file.now → Contains (0 ∷ 4 ∷ 5 ∷ 7 ∷ []) result.code }
     ensures complete { ¬ Rose (H.faults host.old) (H.faults host.new) → MustEnd (H.files host.old) file.now options.now.budget → Contains (0 ∷ 7 ∷ []) result.code }
     ensures no_fault { H.steady host.old → HasFile (H.files host.old) file.now → H.faults host.new ≡ H.faults host.old }
     ensures done { result.code ≡ 0 → HasRun (H.files host.old) file.now options.now choice.Done (H.out host.old) (H.out host.new) }

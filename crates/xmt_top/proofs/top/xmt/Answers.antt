@@ -2,7 +2,7 @@ use Rattle.std.proofs.Common.{[], ◌∷◌, Contains, map, string_bytes, refl, 
 use Rattle.xmt_isa.specs.declared.run.SimOptions.{SimOptions}
 use Rattle.xmt_cli.specs.Given.{Text}
 use Rattle.xmt_top.specs.Sources.{MustBeRefused}
-use Rattle.xmt_top.specs.Completeness.{IsAccepted, MustEnd}
+use Rattle.xmt_top.specs.Completeness.{HoldsProgram, MustEnd}
 use Rattle.xmt_top.proofs.Codes.{code_or, more_codes}
 use Rattle.xmt_top.proofs.Jobs.{for_any}
 use Rattle.xmt_top.proofs.top.xmt.Goals as goal
@@ -21,7 +21,7 @@ returns-in-Ok-Run-clause-codes g c = more_codes _ c.run_file.ensures.codes
 pub returns-in-Err-NoMemory-clause-accepted : goal.returns-in-Err-NoMemory-clause-accepted
 returns-in-Err-NoMemory-clause-accepted g c =
     λ calm.
-    for_any (map string_bytes c.args.words.now) (λ (file : Text) (options : SimOptions). IsAccepted (g.H.Host.files c.args.host.now) file → Contains (0 ∷ 4 ∷ 5 ∷ 7 ∷ []) c.complain-in-Err-NoMemory.result.code)
+    for_any (map string_bytes c.args.words.now) (λ (file : Text) (options : SimOptions). HoldsProgram (g.H.Host.files c.args.host.now) file → Contains (0 ∷ 4 ∷ 5 ∷ 7 ∷ []) c.complain-in-Err-NoMemory.result.code)
     (λ file options accepted. code_or (0 ∷ 4 ∷ 5 ∷ 7 ∷ []) 7 _ (3, omega arith, refl) (3, omega arith, refl) c.complain-in-Err-NoMemory.ensures.code)
 
 pub returns-in-Err-NoMemory-clause-complete : goal.returns-in-Err-NoMemory-clause-complete
