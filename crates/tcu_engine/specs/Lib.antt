@@ -1,0 +1,4 @@
+pub mod Asks
+pub mod Looks
+pub mod Replies
+pub mod Sizes

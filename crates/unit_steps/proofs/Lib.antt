@@ -1,0 +1,14 @@
+pub mod States
+pub mod Positions
+pub mod Functions
+pub mod Instructions
+pub mod Placed
+pub mod Inner
+pub mod Behind
+pub mod Registers
+pub mod There
+pub mod Master
+pub mod Beginnings
+pub mod Kept
+pub mod Live
+pub mod Keeps
