@@ -1,8 +1,14 @@
 pub mod Advance
+pub mod Asked
+pub mod Begins
+pub mod Blocks
 pub mod Choices
-pub mod Joins
+pub mod Frees
+pub mod Idle
 pub mod Legality
+pub mod Moved
 pub mod Printed
 pub mod Ran
-pub mod Small
+pub mod Seen
+pub mod Texts
 pub mod Turned

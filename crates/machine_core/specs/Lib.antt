@@ -1,7 +1,8 @@
-pub mod Ends
+pub mod Goes
+pub mod Kept
 pub mod Prints
 pub mod Runs
-pub mod Sizes
+pub mod Seats
 pub mod Steps
 pub mod Turns
 pub mod View

@@ -7,7 +7,7 @@ use Rattle.xmt_isa.specs.declared.run.Choice.TheVariants as choice
 use Rattle.xmt_isa.specs.declared.run.SimEnd.{SimEnd}
 use Rattle.xmt_isa.specs.declared.run.SimEnd.TheVariants.{Done, Trap, Spent, WriteFault, NoMemory}
 use Rattle.xmt_isa.specs.Machine as spec
-use Rattle.xmt_isa.specs.Legal.{RunsTo}
+use Rattle.xmt_isa.specs.Legal.{RunsTo, HasHalted}
 use Rattle.xmt_isa.specs.Picked.{PickedRun, picked, choice_of}
 use Rattle.machine_core.specs.declared.machine.Machine.{Machine}
 use Rattle.machine_core.specs.Steps.{IsWithin}
@@ -29,7 +29,7 @@ pub record HasEnded (image : Image) (budget : ℕ) (begin : PickedRun) (end : Ch
   pub ended : choice_of image budget (picked image budget begin choices) ≡ end
   pub same : (picked image budget begin choices).machine ≡ machine_of machine out
   pub legal : RunsTo image begin.machine (machine_of machine out)
-  pub within : IsWithin budget machine.units.items
+  pub within : IsWithin budget (machine_of machine out).units
   pub printed : Prints out before now
 
 -- after some number of choices, to which a legal schedule leads, a prefix of what the picked run has printed went to the host
@@ -52,10 +52,10 @@ pub record EndsAs (image : Image) (budget : ℕ) (begin : PickedRun) (end : Choi
   pub ends : choice_of image budget (picked image budget begin choices) ≡ end
   pub printed : Prints machine.out before now
 
--- what an end says of the picked run
+-- what an end says of the picked run; where it is done, the master has halted
 abbrev pub Ends : Image → ℕ → PickedRun → Option (List ℕ) → Option (List ℕ) → SimEnd → Type 0
 Ends image budget begin before now (Done memory) =
-    (machine : spec.Machine) × EndsAs image budget begin choice.Done machine before now × (memory.words ≡ data_words image machine.words)
+    (machine : spec.Machine) × EndsAs image budget begin choice.Done machine before now × HasHalted machine × (memory.words ≡ data_words image machine.words)
 Ends image budget begin before now (Trap trap) = (machine : spec.Machine) × EndsAs image budget begin (choice.Trap trap) machine before now
 Ends image budget begin before now (Spent unit steps) = (machine : spec.Machine) × EndsAs image budget begin (choice.Spent unit steps) machine before now
 Ends image budget begin before now WriteFault = PrintsPicked image budget begin before now

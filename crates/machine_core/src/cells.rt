@@ -1,27 +1,19 @@
 //! Reads and writes of lists of numbers; past the end a read gives 0, and a write changes nothing.
 ghost use Rattle.std.specs.Prelude.{◌≡◌, take, drop, slice_index, slice_set};
 
-use sqlite_items::Items;
-
+/// The value in a place.
 pub(crate) fn look(values: &[u32], at: usize) -> u32
     ensures { result ≡ slice_index values.now at }
 {
     values.get(at).copied().unwrap_or(0)
 }
 
+/// Writes a value in a place.
 pub(crate) fn put(values: &mut [u32], at: usize, value: u32)
     ensures { values.new ≡ slice_set values.old at value }
 {
     if at < values.len() {
         values[at] = value;
-    }
-}
-
-pub(crate) fn put_item(values: &mut Items<u32>, at: usize, value: u32)
-    ensures { values.new ≡ slice_set values.old at value }
-{
-    if at < values.len() {
-        values.set(at, value);
     }
 }
 

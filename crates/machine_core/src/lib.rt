@@ -3,13 +3,12 @@
 
 mod cells;
 mod choose;
-mod ends;
 mod machine;
 mod opening;
 mod print;
 mod run;
-mod text;
+mod seats;
+mod sections;
 mod turn;
-mod units;
 
 pub use run::run_picked;

@@ -1,81 +1,70 @@
 //! The machine at the beginning of a run.
-ghost use Rattle.std.specs.Prelude.{◌≡◌, ◌+◌, ◌^◌, ◌≤◌, ◌<◌, ◌∷◌, [], length, vec_len, IfOk};
-ghost use Rattle.xmt_isa.specs.Opening.{zeros_of, new_unit, new_master, control_units, opening_words, opening};
-ghost use Rattle.machine_core.specs.Sizes.{IsSmall};
+ghost use Rattle.std.specs.Prelude.{◌≡◌, ◌+◌, ◌^◌, ◌≤◌, ◌<◌, ◌∷◌, [], map, vec_len, IfOk};
+ghost use Rattle.xmt_isa.specs.Opening.{zeros_of, new_unit, new_master, no_start, control_units, opening_words, opening};
+ghost use Rattle.machine_core.specs.Kept.{Kept};
+ghost use Rattle.machine_core.specs.Seats.{Holds, seat_of};
 ghost use Rattle.machine_core.specs.View.{machine_of};
 
 use crate::machine::Machine;
+use crate::seats::{Seat, find_next};
+use image_loader::Loaded;
 use sqlite_items::Items;
 use std::alloc::{AllocError, Global};
+use tcu_engine::Ask;
 use xmt_base::Memory;
-use xmt_isa::{Counts, Image, Start, Unit, UnitState};
+use xmt_isa::{Image, Start, Unit};
 
-// How many return positions a unit has.
-const DEPTHS: usize = 256;
-
-// How many slots a frame has, and how many all frames of a unit have.
+// How many slots a frame has.
 const FRAME: usize = 512;
 
-const SLOTS: usize = 257 * FRAME;
-
-fn zeros(alloc: Global, n: usize) -> Result<Items<u32>, AllocError>
-    ensures { IfOk result (λ zeros. zeros ≡ zeros_of n) }
+// So many zeros.
+fn zeros(alloc: Global, n: usize) -> Result<Vec<u32>, AllocError>
+    ensures { IfOk result (λ zeros. zeros.items ≡ zeros_of n) }
 {
-    Ok(Items::from_vec(vec![in alloc; 0; n]?))
+    vec![in alloc; 0; n]
 }
 
-fn new_unit(alloc: Global, number: u32) -> Result<Unit, AllocError>
-    ensures { IfOk result (λ unit. unit ≡ new_unit number) }
+// The master, and what it does first.
+fn new_master(alloc: Global, image: &Loaded, start: &Start, budget: u64) -> Result<Seat, AllocError>
+    ensures { IfOk result (λ seat. Holds image.now start.now budget (new_master image.now) seat.unit seat.ask) }
 {
-    Ok(Unit {
-        number,
-        state: UnitState::Draws,
-        waits: false,
-        at: 0,
-        thread: None,
-        depth: 0,
-        back: zeros(alloc, DEPTHS)?,
-        regs: [0; 32],
-        frames: zeros(alloc, SLOTS)?,
-        list: [0; 16],
-        counts: Counts {
-            steps: 0,
-            loads: 0,
-            stores: 0,
-            adds: 0,
-            threads: 0,
-        },
+    let unit = Unit::new(alloc, 0)?;
+    let mut seat = Seat {
+        unit,
+        ask: Ask::Pause,
+    };
+    find_next(image, start, budget, &mut seat);
+    Ok(seat)
+}
+
+// A control unit, which isn't asked what it does before a section begins.
+fn new_control(alloc: Global, number: u32) -> Result<Seat, AllocError>
+    ensures { IfOk result (λ seat. seat ≡ seat_of (new_unit number)) }
+{
+    let unit = Unit::new(alloc, number)?;
+    Ok(Seat {
+        unit,
+        ask: Ask::Pause,
     })
 }
 
-fn new_master(alloc: Global, image: &Image) -> Result<Unit, AllocError>
-    ensures { IfOk result (λ unit. unit ≡ new_master image.now) }
-{
-    let mut master = new_unit(alloc, 0)?;
-    master.state = UnitState::Runs;
-    master.at = match image.functions.get(image.entry as usize) {
-        None => 0,
-        Some(entry) => entry.start,
-    };
-    Ok(master)
-}
-
 // The master and n control units.
-fn new_units(alloc: Global, image: &Image, n: u32) -> Result<Vec<Unit>, AllocError>
+fn new_seats(alloc: Global, master: Seat, n: u32) -> Result<Vec<Seat>, AllocError>
     requires { n < 2 ^ 31 }
-    ensures units { IfOk result (λ units. units.items ≡ new_master image.now ∷ control_units n) }
-    ensures len { IfOk result (λ units. vec_len units ≡ n + 1) }
+    ensures seats { IfOk result (λ seats. seats.items ≡ master ∷ map seat_of (control_units n)) }
+    ensures len { IfOk result (λ seats. vec_len seats ≡ n + 1) }
 {
-    let mut units = Vec::new(alloc);
-    units.push(new_master(alloc, image)?)?;
+    let mut seats = Vec::new(alloc);
+    seats.push(master)?;
     for i in 0..n {
-        units.push(new_unit(alloc, i + 1)?)?;
+        seats.push(new_control(alloc, i + 1)?)?;
     }
-    Ok(units)
+    Ok(seats)
 }
 
+// The words at the beginning: four that stay 0, the registers, the data words, and the outer words of each depth.
 fn opening_words(alloc: Global, image: &Image, memory: &Memory) -> Result<Vec<u32>, AllocError>
-    requires { IsSmall image.now }
+    requires { image.now.outer ≤ 200 }
     ensures { IfOk result (λ words. words.items ≡ opening_words image.now memory.now.words) }
 {
     let mut words = Vec::from_slice(alloc, &[0; 4])?;
@@ -85,29 +74,42 @@ fn opening_words(alloc: Global, image: &Image, memory: &Memory) -> Result<Vec<u3
     Ok(words)
 }
 
+// Nothing was broadcast yet, and there is room for a frame.
+fn no_start(alloc: Global) -> Result<Start, AllocError>
+    ensures { IfOk result (λ start. start ≡ no_start) }
+{
+    Ok(Start {
+        at: 0,
+        low: 0,
+        count: 0,
+        depth: 0,
+        regs: [0; 32],
+        frame: Items::from_vec(Vec::with_capacity(alloc, FRAME)?),
+    })
+}
+
 /// The machine at the beginning, with n control units.
 pub(crate) fn opening(
     alloc: Global,
-    image: &Image,
+    image: &Loaded,
     memory: &Memory,
+    budget: u64,
     n: u32,
 ) -> Result<Machine, AllocError>
-    requires small { IsSmall image.now }
+    requires some { 1 ≤ n }
     requires few { n < 2 ^ 31 }
     ensures machine { IfOk result (λ machine. machine_of machine [] ≡ opening image.now memory.now.words n) }
-    ensures len { IfOk result (λ machine. vec_len machine.units ≡ n + 1) }
+    ensures kept { IfOk result (Kept image.now budget) }
+    ensures len { IfOk result (λ machine. vec_len machine.seats ≡ n + 1) }
 {
+    let words = opening_words(alloc, image.image(), memory)?;
+    let start = no_start(alloc)?;
+    let master = new_master(alloc, image, &start, budget)?;
     Ok(Machine {
-        units: new_units(alloc, image, n)?,
-        words: opening_words(alloc, image, memory)?,
+        seats: new_seats(alloc, master, n)?,
+        words,
         drawn: 0,
-        start: Start {
-            at: 0,
-            low: 0,
-            count: 0,
-            depth: 0,
-            regs: [0; 32],
-            frame: Items::from_vec(Vec::with_capacity(alloc, FRAME)?),
-        },
+        start,
+        spawned: false,
     })
 }

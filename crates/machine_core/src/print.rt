@@ -1,5 +1,5 @@
 //! Printing a whole text.
-ghost use Rattle.std.specs.Prelude.{◌≡◌, ◌≤◌, OnOk, OnErr};
+ghost use Rattle.std.specs.Prelude.{◌≡◌, OnOk, OnErr};
 ghost use Rattle.xmt_base.specs.Host.{HasCause};
 ghost use Rattle.machine_core.specs.Prints.{Prints, PrintsPart};
 

@@ -1,12 +1,13 @@
 ghost use Rattle.std.specs.Prelude.{◌≡◌, ◌≤◌};
 
 use crate::programs::*;
+use image_loader::{Loaded, admit};
 use machine_core::run_picked;
 use sqlite_items::Items;
 use std::alloc::{AllocError, Global};
 use std::process::Abort;
 use std::test::Fail;
-use xmt_base::{HostCall, Memory, MemoryHost, Trap, TrapKind};
+use xmt_base::{HostCall, Memory, MemoryHost, Symbol, Trap, TrapKind};
 use xmt_isa::{FunctionEntry, Image, Instr, SimEnd, SimOptions};
 
 // How a run ends, without its memory.
@@ -53,6 +54,17 @@ fn lines_of(alloc: Global, rows: &[Row]) -> Result<Items<u32>, AllocError> {
     Ok(lines)
 }
 
+// One array has all data words.
+fn symbols_of(alloc: Global) -> Result<Items<Symbol>, AllocError> {
+    let mut symbols = Items::new(alloc);
+    symbols.push(Symbol {
+        name: Items::from_slice(alloc, b"A")?,
+        base: 0,
+        length: 5,
+    })?;
+    Ok(symbols)
+}
+
 // An image of one function and five data words, whose text is a number in a line.
 fn image_of(alloc: Global, rows: &[Row]) -> Result<Image, AllocError> {
     let function = FunctionEntry {
@@ -65,7 +77,7 @@ fn image_of(alloc: Global, rows: &[Row]) -> Result<Image, AllocError> {
         lines: lines_of(alloc, rows)?,
         functions: Items::from_slice(alloc, &[function])?,
         texts: Items::new(alloc),
-        symbols: Items::new(alloc),
+        symbols: symbols_of(alloc)?,
         words: Items::from_slice(alloc, &[0; 5])?,
         ps: [0; 8],
         outer: 0,
@@ -73,10 +85,13 @@ fn image_of(alloc: Global, rows: &[Row]) -> Result<Image, AllocError> {
     })
 }
 
-fn image_with_text(alloc: Global, rows: &[Row]) -> Result<Image, AllocError> {
+fn loaded(alloc: Global, rows: &[Row]) -> Result<Loaded, Fail> {
     let mut image = image_of(alloc, rows)?;
     image.texts.push(Items::from_slice(alloc, b"%d\n")?)?;
-    Ok(image)
+    match admit(alloc, image) {
+        Ok(image) => Ok(image),
+        Err(_) => Err("the image is refused")?,
+    }
 }
 
 fn zeros(alloc: Global) -> Result<Memory, AllocError> {
@@ -92,14 +107,13 @@ fn run(
     options: &SimOptions,
     seed: u64,
     host: &mut MemoryHost,
-) -> Result<SimEnd, AllocError>
-    requires { options.now.units ≤ 64 }
+) -> Result<SimEnd, Fail>
+    requires some { 1 ≤ options.now.units }
+    requires few { options.now.units ≤ 64 }
 {
-    let image = image_with_text(alloc, rows)?;
+    let image = loaded(alloc, rows)?;
     let memory = zeros(alloc)?;
-    assert!(rt; image.code.len() < 100);
-    assert!(rt; image.words.len() < 100);
-    assert!(rt; image.outer == 0);
+    assert!(rt; memory.words.len() == image.image().words.len());
     Ok(run_picked(alloc, &image, memory, options, seed, host))
 }
 
@@ -158,7 +172,7 @@ fn runs_end(rt: HostRuntime) -> Result<(), Fail> {
     let alloc = rt.alloc();
     for (number, case) in cases().iter().enumerate() {
         let mut host = MemoryHost::new(alloc, Vec::new(alloc));
-        assert!(rt; case.1 <= 64);
+        assert!(rt; case.1 >= 1 && case.1 <= 64);
         let options = options_of(case.1, case.2);
         let end = run(&rt, alloc, case.0.code(), &options, case.3, &mut host)?;
         assert_eq!(rt; ending_of(end), case.4, "case {number}");

@@ -9,9 +9,8 @@ use Rattle.std.proofs.lemmas.Slice.Eq.{bytes_eq-Decides}
 use Rattle.std.proofs.lemmas.List.Sums.{split_at_first, passes_at_first}
 use Rattle.std.proofs.lemmas.List.{take_all}
 use Rattle.xmt_cli.specs.declared.given.Key.{Key}
-use Rattle.xmt_cli.specs.declared.given.Key.TheVariants.{Units, Budget, Seed}
-use Rattle.xmt_cli.specs.Given.{Text, Texts, Walk, once, put, put_file, settled, take_option, take_word, take_other, take_next, walk, finished, front_of, behind, key_of, option_text, hyphen_text, is_file_name}
-use Rattle.xmt_cli.specs.Spelling.{Part, file, option, name_of, Spells, nothing_more, file_name, two_words, one_word}
+use Rattle.xmt_cli.specs.Given.{Text, Texts, Walk, once, put, put_file, settled, take_option, take_word, take_other, take_next, walk, finished, front_of, behind, key_of, option_text, hyphen_text, is_file_name, called, name_of, all_keys}
+use Rattle.xmt_cli.specs.Spelling.{Part, file, option, Spells, nothing_more, file_name, two_words, one_word}
 use Rattle.xmt_cli.proofs.Parts.{add, add_all}
 
 -- the parts that words spell where nothing waits, or an option for its value
@@ -32,21 +31,17 @@ behind_hyphens : (word text : Text) → option_text word ≡ Some text → word 
 behind_hyphens word text is =
     option_and_then_some hyphen_text (hyphen_text word) text is (λ rest first second. behind_hyphen word rest first ∙ ap (λ (r : Text). 45 ∷ r) (behind_hyphen rest text second))
 
--- the name of the option that a text names
+-- what has this name
+called_next : {A : Type 0} (names : A → Text) (name : Text) (y x : A) (rest : Option A) (b : Bool) → bytes_eq name (names y) ≡ b → (rest ≡ Some x → name ≡ names x) → (if b then Some y else rest) ≡ Some x → name ≡ names x
+called_next names name y x rest true same later is = let equal : name ≡ names y = search (rules, bytes_eq-Decides name (names y), same) in equal ∙ ap names (same_Some y x is)
+called_next names name y x rest false same later is = later is
+
+pub called_so : {A : Type 0} (names : A → Text) (xs : List A) (name : Text) (x : A) → called names xs name ≡ Some x → name ≡ names x
+called_so names [] name x is = cc
+called_so names (y ∷ ys) name x is = called_next names name y x (called names ys name) (bytes_eq name (names y)) refl (called_so names ys name x) is
+
 named : (name : Text) (key : Key) → key_of name ≡ Some key → name ≡ name_of key
-named name key is = units (bytes_eq name (codes "units")) refl is
-  where
-    seed : (b : Bool) → bytes_eq name (codes "seed") ≡ b → (if b then Some Seed else None) ≡ Some key → name ≡ name_of key
-    seed true same is = let equal : name ≡ codes "seed" = search (rules, bytes_eq-Decides name (codes "seed"), same) in equal ∙ ap name_of (same_Some Seed key is)
-    seed false same is = cc
-
-    budget : (b : Bool) → bytes_eq name (codes "budget") ≡ b → (if b then Some Budget else (if bytes_eq name (codes "seed") then Some Seed else None)) ≡ Some key → name ≡ name_of key
-    budget true same is = let equal : name ≡ codes "budget" = search (rules, bytes_eq-Decides name (codes "budget"), same) in equal ∙ ap name_of (same_Some Budget key is)
-    budget false same is = seed (bytes_eq name (codes "seed")) refl is
-
-    units : (b : Bool) → bytes_eq name (codes "units") ≡ b → (if b then Some Units else (if bytes_eq name (codes "budget") then Some Budget else (if bytes_eq name (codes "seed") then Some Seed else None))) ≡ Some key → name ≡ name_of key
-    units true same is = let equal : name ≡ codes "units" = search (rules, bytes_eq-Decides name (codes "units"), same) in equal ∙ ap name_of (same_Some Units key is)
-    units false same is = budget (bytes_eq name (codes "budget")) refl is
+named name key is = called_so name_of all_keys name key is
 
 -- a text with no equals sign, and one with a value behind it
 no_equals : (text : Text) → behind text ≡ None → text ≡ front_of text

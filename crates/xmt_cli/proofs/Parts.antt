@@ -3,9 +3,9 @@ use Rattle.std.proofs.Common.{◌≡◌, ◌==◌, List, [], ◌∷◌, ◌++◌
 use Rattle.std.specs.Option.{option_and_then}
 use Rattle.std.proofs.lemmas.Bool.Decides.{nat_tests}
 use Rattle.xmt_cli.specs.declared.given.Key.{Key}
-use Rattle.xmt_cli.specs.declared.given.Key.TheVariants.{Units, Budget, Seed}
-use Rattle.xmt_cli.specs.Given.{Text, Texts, Walk, once, put, settled, walk, front_of, behind, key_of, option_text, is_file_name}
-use Rattle.xmt_cli.specs.Spelling.{Part, file, option, name_of, Spells, nothing_more, file_name, two_words, one_word}
+use Rattle.xmt_cli.specs.declared.given.Key.TheVariants.{Units, Budget, Seed, Out, Map, Dump}
+use Rattle.xmt_cli.specs.Given.{Text, Texts, Walk, once, put, settled, walk, front_of, behind, key_of, name_of, option_text, is_file_name}
+use Rattle.xmt_cli.specs.Spelling.{Part, file, option, Spells, nothing_more, file_name, two_words, one_word}
 
 -- a part in its place
 abbrev pub add : Part → Texts → Option Texts
@@ -35,21 +35,33 @@ key_apart : (key : Key) → key_of (front_of (name_of key)) ≡ Some key
 key_apart Units = refl
 key_apart Budget = refl
 key_apart Seed = refl
+key_apart Out = refl
+key_apart Map = refl
+key_apart Dump = refl
 
 value_apart : (key : Key) → behind (name_of key) ≡ None
 value_apart Units = refl
 value_apart Budget = refl
 value_apart Seed = refl
+value_apart Out = refl
+value_apart Map = refl
+value_apart Dump = refl
 
 key_joined : (key : Key) (value : Text) → key_of (front_of (name_of key ++ (61 ∷ value))) ≡ Some key
 key_joined Units value = refl
 key_joined Budget value = refl
 key_joined Seed value = refl
+key_joined Out value = refl
+key_joined Map value = refl
+key_joined Dump value = refl
 
 value_joined : (key : Key) (value : Text) → behind (name_of key ++ (61 ∷ value)) ≡ Some value
 value_joined Units value = let inside : nat_lt 5 (length (codes "units=" ++ value)) ≡ true = grind (arith, nat_tests) in rw inside refl
 value_joined Budget value = let inside : nat_lt 6 (length (codes "budget=" ++ value)) ≡ true = grind (arith, nat_tests) in rw inside refl
 value_joined Seed value = let inside : nat_lt 4 (length (codes "seed=" ++ value)) ≡ true = grind (arith, nat_tests) in rw inside refl
+value_joined Out value = let inside : nat_lt 3 (length (codes "out=" ++ value)) ≡ true = grind (arith, nat_tests) in rw inside refl
+value_joined Map value = let inside : nat_lt 3 (length (codes "map=" ++ value)) ≡ true = grind (arith, nat_tests) in rw inside refl
+value_joined Dump value = let inside : nat_lt 4 (length (codes "dump=" ++ value)) ≡ true = grind (arith, nat_tests) in rw inside refl
 
 -- words that spell parts are read as these
 pub read_parts : {parts : List Part} {words : List Text} → Spells parts words → (w : Texts) → walk (at w) words ≡ add_all parts w

@@ -6,7 +6,7 @@ use Rattle.std.specs.Option.{option_and_then, option_map}
 use Rattle.std.specs.List.{before_first}
 use Rattle.std.specs.Str.{bytes_eq}
 use Rattle.xmt_cli.specs.declared.given.Key.{Key}
-use Rattle.xmt_cli.specs.declared.given.Key.TheVariants.{Units, Budget, Seed}
+use Rattle.xmt_cli.specs.declared.given.Key.TheVariants.{Units, Budget, Seed, Out, Map, Dump}
 
 abbrev pub Text : Type 0
 Text = List ℕ
@@ -16,10 +16,26 @@ abbrev pub is_file_name : Text → Bool
 is_file_name [] = false
 is_file_name (c ∷ cs) = not (c == 45)
 
+-- the first of some things that is called this
+abbrev pub called : {A : Type 0} → (A → Text) → List A → Text → Option A
+called name_of [] name = None
+called name_of (x ∷ xs) name = if bytes_eq name (name_of x) then Some x else called name_of xs name
+
+-- the name of an option, as it stands behind two hyphens
+abbrev pub name_of : Key → Text
+name_of Units = codes "units"
+name_of Budget = codes "budget"
+name_of Seed = codes "seed"
+name_of Out = codes "out"
+name_of Map = codes "map"
+name_of Dump = codes "dump"
+
+abbrev pub all_keys : List Key
+all_keys = Units ∷ Budget ∷ Seed ∷ Out ∷ Map ∷ Dump ∷ []
+
 -- the option of a name
 abbrev pub key_of : Text → Option Key
-key_of name =
-    if bytes_eq name (codes "units") then Some Units else (if bytes_eq name (codes "budget") then Some Budget else (if bytes_eq name (codes "seed") then Some Seed else None))
+key_of name = called name_of all_keys name
 
 -- the texts that were given, each in its place
 pub record Texts : Type 0 where
@@ -27,9 +43,12 @@ pub record Texts : Type 0 where
   pub units : Option Text
   pub budget : Option Text
   pub seed : Option Text
+  pub out : Option Text
+  pub map : Option Text
+  pub dump : Option Text
 
 abbrev pub nothing : Texts
-nothing = record { file = None; units = None; budget = None; seed = None }
+nothing = record { file = None; units = None; budget = None; seed = None; out = None; map = None; dump = None }
 
 -- a text where there was none
 abbrev pub once : Option Text → Text → (Option Text → Texts) → Option Texts
@@ -41,6 +60,9 @@ abbrev pub put : Key → Texts → Text → Option Texts
 put Units w value = once w.units value (λ o. record w { units = o })
 put Budget w value = once w.budget value (λ o. record w { budget = o })
 put Seed w value = once w.seed value (λ o. record w { seed = o })
+put Out w value = once w.out value (λ o. record w { out = o })
+put Map w value = once w.map value (λ o. record w { map = o })
+put Dump w value = once w.dump value (λ o. record w { dump = o })
 
 -- and so does the file
 abbrev pub put_file : Texts → Text → Option Texts

@@ -12,6 +12,9 @@ pub enum Key {
     Units,
     Budget,
     Seed,
+    Out,
+    Map,
+    Dump,
 }
 
 /// The texts that were given, each in its place.
@@ -21,6 +24,9 @@ pub struct Given<'a> {
     pub units: Option<&'a str>,
     pub budget: Option<&'a str>,
     pub seed: Option<&'a str>,
+    pub out: Option<&'a str>,
+    pub map: Option<&'a str>,
+    pub dump: Option<&'a str>,
 }
 
 /// What the words so far leave: an option that waits for its value, and what was given.
@@ -53,6 +59,27 @@ fn put<'a>(given: Given<'a>, key: Key, value: &'a str) -> Option<Given<'a>>
             Some(_) => None,
             None => Some(Given {
                 seed: Some(value),
+                ..given
+            }),
+        },
+        Key::Out => match given.out {
+            Some(_) => None,
+            None => Some(Given {
+                out: Some(value),
+                ..given
+            }),
+        },
+        Key::Map => match given.map {
+            Some(_) => None,
+            None => Some(Given {
+                map: Some(value),
+                ..given
+            }),
+        },
+        Key::Dump => match given.dump {
+            Some(_) => None,
+            None => Some(Given {
+                dump: Some(value),
                 ..given
             }),
         },
@@ -136,6 +163,9 @@ pub(crate) fn read_given(words: &[String]) -> Option<Given<'_>>
             units: None,
             budget: None,
             seed: None,
+            out: None,
+            map: None,
+            dump: None,
         },
     };
     for word in words {

@@ -9,9 +9,9 @@ mod read;
 mod texts;
 
 pub use given::{Given, Key, State};
-pub use job::{Job, WordsRefusal};
+pub use job::{Command, Job, WordsRefusal};
 pub use laws::jobs_are_spelled;
-pub use read::read_words;
+pub use read::{Start, read_words};
 
 #[cfg(test)]
 mod tests;

@@ -2,8 +2,10 @@
 ghost use Rattle.std.specs.Prelude.{◌≡◌};
 ghost use Rattle.std.specs.Option.{option_map};
 ghost use Rattle.xmt_cli.specs.Given.{is_file_name, key_of, front_of, behind, hyphen_text, option_text};
+ghost use Rattle.xmt_cli.specs.JobOf.{command_of};
 
 use crate::given::Key;
+use crate::job::Command;
 
 /// A file name isn't empty and doesn't begin with a hyphen.
 pub(crate) fn is_file_name(name: &str) -> bool
@@ -19,14 +21,26 @@ pub(crate) fn is_file_name(name: &str) -> bool
 pub(crate) fn key_of(name: &str) -> Option<Key>
     ensures { result ≡ key_of name.now }
 {
-    if name == "units" {
-        Some(Key::Units)
-    } else if name == "budget" {
-        Some(Key::Budget)
-    } else if name == "seed" {
-        Some(Key::Seed)
-    } else {
-        None
+    match name {
+        "units" => Some(Key::Units),
+        "budget" => Some(Key::Budget),
+        "seed" => Some(Key::Seed),
+        "out" => Some(Key::Out),
+        "map" => Some(Key::Map),
+        "dump" => Some(Key::Dump),
+        _ => None,
+    }
+}
+
+/// The command that a word is.
+pub(crate) fn command_of(word: &str) -> Option<Command>
+    ensures { result ≡ command_of word.now }
+{
+    match word {
+        "cc" => Some(Command::Compile),
+        "sim" => Some(Command::Simulate),
+        "run" => Some(Command::Run),
+        _ => None,
     }
 }
 

@@ -18,7 +18,8 @@ use Rattle.xmt_isa.specs.Picked.{PickedRun, choice_of, choice_by, picks, place_o
 use Rattle.xmt_base.specs.Picker as picker
 use Rattle.machine_runs.proofs.Opens.{control_units-length}
 use Rattle.machine_runs.proofs.Runs.{after-length, all_have_logs}
-use Rattle.xmt_compile.specs.Implements.{Implements, Matches, reached}
+use Rattle.source_meaning.specs.Run.{words_held}
+use Rattle.xmt_compile.specs.Implements.{Implements, Matches, data_words, reached}
 use Rattle.xmt_compile.specs.Ended.{EndsSo, HasDone, HasPrinted}
 use Rattle.xmt_compile.proofs.Drawn.{both_true}
 use Rattle.xmt_compile.proofs.Lists.{count_cons}
@@ -66,7 +67,7 @@ module _ (program : Program) (image : Image) (implements : Implements program im
 
   module _ (schedule : List ℕ) (matches : Matches program image memory n m schedule) where
     abbrev Ends : Choice → Type 0
-    Ends = EndsSo program (reached program memory schedule) (length schedule) budget
+    Ends = EndsSo program (reached program memory schedule) (length schedule) budget (data_words image m.words)
 
     at_trap : (k : ℕ) (u : Unit) → slice_get m.units k ≡ Some u → is_active (is_spawned m.units) u ≡ true → (x : Next) → next_of image m.start u ≡ x → is_trap x ≡ true → Ends (trap_of image u x)
     at_trap k u at active next.Local is h = cc
@@ -86,7 +87,9 @@ module _ (program : Program) (image : Image) (implements : Implements program im
         (same, subst (λ s. s ≤ 64 * (length schedule + 1)) same (matches.steps f.0 u f.1))
 
     done : count_by (is_active (is_spawned m.units)) m.units ≡ 0 → Ends choice.Done
-    done none = (matches.halted (over (λ k u at. count_none (is_active (is_spawned m.units)) m.units k u none at))).0
+    done none =
+        let halted = matches.halted (over (λ k u at. count_none (is_active (is_spawned m.units)) m.units k u none at)) in
+        (halted.0, subst (λ n. words_held (reached program memory schedule).store n ≡ data_words image m.words) size halted.1)
 
     abbrev NoStep : Choice → Type 0
     NoStep end = (k : ℕ) → end ≢ choice.Step k
@@ -108,7 +111,7 @@ module _ (program : Program) (image : Image) (implements : Implements program im
     by_finds None None is_t is_s end same not_on = chosen (count_by (is_active (is_spawned m.units)) m.units) refl end same not_on
 
   -- where the run ends, the source has come to such an end
-  pub picked_ends : (end : Choice) → choice_of image budget r ≡ end → ((k : ℕ) → end ≢ choice.Step k) → HasDone program memory n budget end r.machine.out
+  pub picked_ends : (end : Choice) → choice_of image budget r ≡ end → ((k : ℕ) → end ≢ choice.Step k) → HasDone program memory n budget end r.machine.out (data_words image r.machine.words)
   picked_ends end same not_on =
       let s = subst (λ m. (schedule : List ℕ) × Matches program image memory n m schedule) runs.2 (implements.runs memory n runs.0 size some most runs.1) in
       record {

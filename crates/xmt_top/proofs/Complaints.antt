@@ -1,15 +1,27 @@
 -- What was complained of, told of an earlier host.
-use Rattle.std.proofs.Common.{◌≡◌, subst, ℕ, ◌≤◌, List, Option, inl, inr, arith}
+use Rattle.std.proofs.Common.{◌≡◌, subst, sym, ℕ, ◌≤◌, List, length, Option, Result, Ok, Err, inl, inr, arith, take_all}
+use Rattle.std.specs.Prelude.{OnOk, OnErr}
 use Rattle.std.proofs.lemmas.Grind.{common_steps}
 use Rattle.xmt_base.specs.Host.{Rose}
+use Rattle.xmt_jobs.specs.Told.{Told, Writes, WritesPart}
 use Rattle.xmt_top.specs.Complaints.{Complains}
 
-pub rose_earlier : (before mid now : ℕ) → before ≤ mid → Rose mid now → Rose before now
+rose_earlier : (before mid now : ℕ) → before ≤ mid → Rose mid now → Rose before now
 rose_earlier before mid now less h = grind (arith, common_steps, less, h)
-
-pub complains_earlier : (line : List ℕ) (before mid now : ℕ) (first old new : Option (List ℕ)) → before ≤ mid → old ≡ first → Complains line mid now old new → Complains line before now first new
-complains_earlier line before mid now first old new less same (inl h) = subst (λ o. Complains line before now o new) same (inl h)
-complains_earlier line before mid now first old new less same (inr h) = subst (λ o. Complains line before now o new) same (inr (rose_earlier before mid now less h.0, h.1))
 
 pub rose_later : (before mid now : ℕ) → mid ≤ now → Rose before mid → Rose before now
 rose_later before mid now less h = grind (arith, common_steps, less, h)
+
+pub complains_earlier : (line : List ℕ) (before mid now : Told) → before.faults ≤ mid.faults → mid.err ≡ before.err → Complains line mid now → Complains line before now
+complains_earlier line before mid now less same (inl h) = inl (subst (λ (o : Option (List ℕ)). Writes line o now.err) same h)
+complains_earlier line before mid now less same (inr h) =
+    inr (rose_earlier before.faults mid.faults now.faults less h.0, subst (λ (o : Option (List ℕ)). WritesPart line o now.err) same h.1)
+
+-- what was written whole was written in part
+pub whole_part : (bytes : List ℕ) (old new : Option (List ℕ)) → Writes bytes old new → WritesPart bytes old new
+whole_part bytes old new h = (length bytes, subst (λ (b : List ℕ). Writes b old new) (sym (take_all (length bytes) bytes (omega arith))) h)
+
+-- whatever was answered, a part was written
+pub either_part : {T E : Type 0} (bytes : List ℕ) (old new : Option (List ℕ)) (r : Result T E) → OnOk r (Writes bytes old new) → OnErr r (WritesPart bytes old new) → WritesPart bytes old new
+either_part bytes old new (Ok done) ok err = whole_part bytes old new ok
+either_part bytes old new (Err fault) ok err = err

@@ -1,7 +1,9 @@
 mod Codes
 mod Complaints
-mod Completeness
-mod Jobs
-mod Runs
-mod Sources
 mod Written
+mod Later
+mod Held
+mod Stops
+mod Refusals
+mod Taken
+mod Shown

@@ -1,7 +1,4 @@
-pub mod Complaints
 pub mod Messages
-pub mod Sources
-pub mod Streams
-pub mod Runs
-pub mod Outcomes
+pub mod Complaints
+pub mod Shows
 pub mod Completeness

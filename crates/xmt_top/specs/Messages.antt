@@ -10,6 +10,12 @@ use Rattle.name_scopes.specs.declared.fault.Which.{Which}
 use Rattle.name_scopes.specs.declared.fault.Which.TheVariants as which
 use Rattle.front_end.specs.declared.refusal.SourceKind.{SourceKind}
 use Rattle.front_end.specs.declared.refusal.SourceKind.TheVariants as rule
+use Rattle.image_loader.specs.declared.refusal.LoadKind.{LoadKind}
+use Rattle.image_loader.specs.declared.refusal.LoadKind.TheVariants as load
+use Rattle.memory_map.specs.declared.read.MapRefusal.{MapRefusal}
+use Rattle.memory_map.specs.declared.read.MapRefusal.TheVariants as map
+use Rattle.xmt_jobs.specs.declared.outcome.BytesFault.{BytesFault}
+use Rattle.xmt_jobs.specs.declared.outcome.BytesFault.TheVariants.{TooLong, BadImage, BadMap}
 
 abbrev pub no_job_line : List ℕ
 no_job_line = codes "xmt: words are no command; commands are cc, sim, run, asm, dis, ref, gen\n"
@@ -86,3 +92,36 @@ trap_line trap = line_of_trap trap.kind trap.line trap.thread
 -- the line for a unit that has spent its budget; it isn't unfolded, so that proofs carry it as it stands
 unfoldable pub spent_line : (unit steps : ℕ) → List ℕ
 spent_line unit steps = codes "xmt: budget spent by unit " ++ decimal unit ++ codes " after " ++ decimal steps ++ codes " steps\n"
+
+-- ---- images and maps
+
+abbrev pub load_name : LoadKind → List ℕ
+load_name load.Short = codes "Short"
+load_name load.BadMark = codes "BadMark"
+load_name load.BadVersion = codes "BadVersion"
+load_name load.Extra = codes "Extra"
+load_name load.BadSize = codes "BadSize"
+load_name load.BadOpcode = codes "BadOpcode"
+load_name load.BadRegister = codes "BadRegister"
+load_name load.BadTarget = codes "BadTarget"
+load_name load.BadRegion = codes "BadRegion"
+load_name load.BadText = codes "BadText"
+load_name load.BadSymbol = codes "BadSymbol"
+
+-- the name of a fault, and its line where it has one
+abbrev pub map_text : MapRefusal → List ℕ
+map_text (map.BadLine line) = codes "BadLine line " ++ decimal line
+map_text (map.UnknownName line) = codes "UnknownName line " ++ decimal line
+map_text (map.DoubleName line) = codes "DoubleName line " ++ decimal line
+map_text (map.TooManyValues line) = codes "TooManyValues line " ++ decimal line
+map_text (map.BadNumber line) = codes "BadNumber line " ++ decimal line
+map_text map.NoMemory = codes "NoMemory"
+
+abbrev pub fault_text : BytesFault → List ℕ
+fault_text TooLong = codes "TooLong"
+fault_text (BadImage kind) = load_name kind
+fault_text (BadMap refusal) = map_text refusal
+
+-- the line for a file that holds no image or no map; it isn't unfolded, so that proofs carry it as it stands
+unfoldable pub bytes_line : (file : List ℕ) → BytesFault → List ℕ
+bytes_line file fault = codes "xmt: " ++ file ++ codes ": " ++ fault_text fault ++ codes "\n"

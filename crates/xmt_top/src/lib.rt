@@ -3,9 +3,11 @@
 
 mod messages;
 mod print;
+mod report;
 mod top;
 
-pub use top::{Status, xmt};
+pub use report::Status;
+pub use top::xmt;
 
 #[cfg(test)]
 mod tests;

@@ -2,11 +2,14 @@
 ghost use Rattle.std.specs.Prelude.{◌≡◌, ◌++◌, IfOk, codes, string_bytes};
 ghost use Rattle.std.specs.Fmt.{decimal, signed_decimal};
 ghost use Rattle.xmt_base.specs.Operators.{signed};
-ghost use Rattle.xmt_top.specs.Messages.{kind_name, limit_name, rule_name, refusal_line, spent_line, trap_line};
+ghost use Rattle.xmt_top.specs.Messages.{bytes_line, kind_name, limit_name, load_name, map_text, rule_name, refusal_line, spent_line, trap_line};
 
+use image_loader::LoadKind;
+use memory_map::MapRefusal;
 use std::alloc::{AllocError, Global};
 use xmt_base::{Place, Trap, TrapKind};
 use xmt_compile::{SourceKind, Which};
+use xmt_jobs::BytesFault;
 
 /// The line for words that are no job.
 pub(crate) const NO_JOB: &[u8] =
@@ -149,4 +152,64 @@ pub(crate) fn spent_line(alloc: Global, unit: u32, steps: u64) -> Result<String,
     ensures { IfOk result (λ line. string_bytes line ≡ spent_line unit steps) }
 {
     format!(in alloc; "xmt: budget spent by unit {unit} after {steps} steps\n")
+}
+
+fn load_name(kind: LoadKind) -> &'static str
+    ensures { result.now ≡ load_name kind }
+{
+    match kind {
+        LoadKind::Short => "Short",
+        LoadKind::BadMark => "BadMark",
+        LoadKind::BadVersion => "BadVersion",
+        LoadKind::Extra => "Extra",
+        LoadKind::BadSize => "BadSize",
+        LoadKind::BadOpcode => "BadOpcode",
+        LoadKind::BadRegister => "BadRegister",
+        LoadKind::BadTarget => "BadTarget",
+        LoadKind::BadRegion => "BadRegion",
+        LoadKind::BadText => "BadText",
+        LoadKind::BadSymbol => "BadSymbol",
+    }
+}
+
+// The name of a fault, and its line.
+fn on_line(alloc: Global, name: &str, line: u32) -> Result<String, AllocError>
+    ensures { IfOk result (λ text. string_bytes text ≡ name.now ++ codes " line " ++ decimal line) }
+{
+    format!(in alloc; "{name} line {line}")
+}
+
+// What is wrong with a map.
+fn map_text(alloc: Global, refusal: MapRefusal) -> Result<String, AllocError>
+    ensures { IfOk result (λ text. string_bytes text ≡ map_text refusal) }
+{
+    match refusal {
+        MapRefusal::BadLine(line) => on_line(alloc, "BadLine", line),
+        MapRefusal::UnknownName(line) => on_line(alloc, "UnknownName", line),
+        MapRefusal::DoubleName(line) => on_line(alloc, "DoubleName", line),
+        MapRefusal::TooManyValues(line) => on_line(alloc, "TooManyValues", line),
+        MapRefusal::BadNumber(line) => on_line(alloc, "BadNumber", line),
+        MapRefusal::NoMemory => format!(in alloc; "NoMemory"),
+    }
+}
+
+// The line for a file with which this is wrong.
+fn faulty_file(alloc: Global, file: &str, fault: &str) -> Result<String, AllocError>
+    ensures { IfOk result (λ text. string_bytes text ≡ codes "xmt: " ++ file.now ++ codes ": " ++ fault.now ++ codes "\n") }
+{
+    format!(in alloc; "xmt: {file}: {fault}\n")
+}
+
+/// The line for a file that holds no image or no map.
+pub(crate) fn bytes_line(alloc: Global, file: &str, fault: BytesFault) -> Result<String, AllocError>
+    ensures { IfOk result (λ line. string_bytes line ≡ bytes_line file.now fault) }
+{
+    match fault {
+        BytesFault::TooLong => faulty_file(alloc, file, "TooLong"),
+        BytesFault::BadImage(kind) => faulty_file(alloc, file, load_name(kind)),
+        BytesFault::BadMap(refusal) => {
+            let fault = map_text(alloc, refusal)?;
+            faulty_file(alloc, file, fault.as_str())
+        }
+    }
 }

@@ -1,7 +1,7 @@
 //! Handing a whole line to the host's error stream.
 ghost use Rattle.std.specs.Prelude.{◌≡◌, ◌≤◌, OnOk, OnErr};
 ghost use Rattle.xmt_base.specs.Host.{HasCause};
-ghost use Rattle.xmt_top.specs.Streams.{Writes, WritesPart};
+ghost use Rattle.xmt_jobs.specs.Told.{Writes, WritesPart};
 
 use xmt_base::{Host, HostFault};
 

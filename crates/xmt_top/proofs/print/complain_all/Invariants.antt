@@ -1,5 +1,5 @@
 use Rattle.std.proofs.Common.{◌≡◌, ◌-◌, ◌≤◌, length, take}
-use Rattle.xmt_top.specs.Streams.{Writes}
+use Rattle.xmt_jobs.specs.Told.{Writes}
 use Rattle.xmt_top.proofs.print.complain_all.Given as goal
 
 abbrev pub invariant-loop-at : goal.invariant-loop-at

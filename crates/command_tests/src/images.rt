@@ -1,0 +1,151 @@
+//! Files that hold an image, or none.
+use crate::calls::{call, file, has_said, host_of};
+use std::alloc::Global;
+use std::test::Fail;
+
+// An instruction: operation, three registers and a number.
+type Row = (u8, u8, u8, u8, u32);
+
+fn push_number(bytes: &mut Vec<u8>, number: u32) -> Result<(), Fail> {
+    bytes.extend_from_slice(&number.to_le_bytes())?;
+    Ok(())
+}
+
+// The header of an image of one function and no data words.
+fn push_header(bytes: &mut Vec<u8>, count: u32) -> Result<(), Fail> {
+    bytes.extend_from_slice(b"XMTI")?;
+    for number in [1, count, 1, 0, 0, 0, 0, 0, 0, 0, 0, 0, 0, 0, 0, 0] {
+        push_number(bytes, number)?;
+    }
+    Ok(())
+}
+
+// The bytes of such an image, whose instruction k stands in line k + 1.
+fn image(alloc: Global, rows: &[Row]) -> Result<Vec<u8>, Fail> {
+    let mut bytes = Vec::new(alloc);
+    let mut count = 0u32;
+    for _ in rows {
+        count = count.saturating_add(1);
+    }
+    push_header(&mut bytes, count)?;
+    for row in rows {
+        bytes.extend_from_slice(&[row.0, row.1, row.2, row.3])?;
+        push_number(&mut bytes, row.4)?;
+    }
+    let mut line = 0u32;
+    for _ in rows {
+        line = line.saturating_add(1);
+        push_number(&mut bytes, line)?;
+    }
+    for _ in 0..3 {
+        push_number(&mut bytes, 0)?;
+    }
+    Ok(bytes)
+}
+
+// Whether `sim` of these bytes ends with this code and line, and prints nothing.
+fn ends(rt: &HostRuntime, bytes: &[u8], code: u8, err: &str) -> Result<bool, Fail> {
+    let mut host = host_of(rt, &[("p.img", bytes)], None)?;
+    let found = call(rt, &mut host, "sim p.img --budget 1000 --dump d")?;
+    let dumped = file(&host, "d").is_some();
+    Ok(found == code && has_said(&host, "", err) && dumped == (code == 0))
+}
+
+static RETURN: [Row; 1] = [(24, 0, 0, 0, 0)];
+
+#[test]
+fn prefixes_are_short(rt: HostRuntime) -> Result<(), Fail> {
+    let bytes = image(rt.alloc(), &RETURN)?;
+    assert_eq!(rt; bytes.len(), 92);
+    assert!(rt; ends(&rt, bytes.as_slice(), 0, "")?);
+    for (length, _) in bytes.iter().enumerate() {
+        let prefix = bytes.get(..length).ok_or("no prefix")?;
+        assert!(rt;
+            ends(&rt, prefix, 3, "xmt: p.img: Short\n")?,
+            "{length} bytes"
+        );
+    }
+    Ok(())
+}
+
+// A byte of the image that is another, and what that gives.
+#[test]
+fn other_bytes_are_refused(rt: HostRuntime) -> Result<(), Fail> {
+    let rows: [(usize, u8, &str); 10] = [
+        (0, b'x', "BadMark"),
+        (3, 0, "BadMark"),
+        (4, 9, "BadVersion"),
+        (8, 0, "Extra"),
+        (8, 2, "Short"),
+        (64, 1, "BadSize"),
+        (68, 0, "BadOpcode"),
+        (68, 46, "BadOpcode"),
+        (69, 1, "BadRegister"),
+        (72, 1, "BadTarget"),
+    ];
+    for (at, byte, kind) in rows {
+        let mut bytes = image(rt.alloc(), &RETURN)?;
+        if let Some(place) = bytes.get_mut(at) {
+            *place = byte;
+        }
+        let err = format!(in rt.alloc(); "xmt: p.img: {kind}\n")?;
+        assert!(rt;
+            ends(&rt, bytes.as_slice(), 3, err.as_str())?,
+            "{byte} at {at}"
+        );
+    }
+    let mut longer = image(rt.alloc(), &RETURN)?;
+    longer.push(0)?;
+    assert!(rt; ends(&rt, longer.as_slice(), 3, "xmt: p.img: Extra\n")?);
+    Ok(())
+}
+
+// Images in instructions, and how they end.
+#[test]
+fn images_end(rt: HostRuntime) -> Result<(), Fail> {
+    let unending = [(20, 0, 0, 0, 0)];
+    let address = [(1, 8, 0, 0, 5), (34, 9, 8, 0, 0), (24, 0, 0, 0, 0)];
+    let depth = [(23, 0, 0, 0, 0), (24, 0, 0, 0, 0)];
+    let increment = [(1, 8, 0, 0, 2), (42, 8, 0, 0, 0), (24, 0, 0, 0, 0)];
+    let out_of_its_block = [
+        (44, 0, 0, 0, 0),
+        (20, 0, 0, 0, 3),
+        (45, 0, 0, 0, 0),
+        (24, 0, 0, 0, 0),
+    ];
+    let first = [(1, 0, 0, 0, 5), (24, 0, 0, 0, 0)];
+    let rows: [(&[Row], u8, &str); 6] = [
+        (
+            &unending,
+            5,
+            "xmt: budget spent by unit 0 after 1000 steps\n",
+        ),
+        (&address, 4, "xmt: trap Address line 2 serial\n"),
+        (&depth, 4, "xmt: trap CallDepth line 1 serial\n"),
+        (&increment, 4, "xmt: trap PsIncrement line 2 serial\n"),
+        (&out_of_its_block, 3, "xmt: p.img: BadRegion\n"),
+        (&first, 3, "xmt: p.img: BadRegister\n"),
+    ];
+    for (code, wanted, err) in rows {
+        let bytes = image(rt.alloc(), code)?;
+        assert!(rt; ends(&rt, bytes.as_slice(), wanted, err)?, "{err}");
+    }
+    Ok(())
+}
+
+// The limit, and one byte more.
+#[test]
+fn long_files_are_refused(rt: HostRuntime) -> Result<(), Fail> {
+    let mut bytes = vec![in rt.alloc(); b' '; 67_108_864]?;
+    assert!(rt; ends(&rt, bytes.as_slice(), 3, "xmt: p.img: BadMark\n")?);
+    bytes.push(b' ')?;
+    assert!(rt; ends(&rt, bytes.as_slice(), 3, "xmt: p.img: TooLong\n")?);
+    let mut host = host_of(
+        &rt,
+        &[("p.xmtc", b"main(){}"), ("m", bytes.as_slice())],
+        None,
+    )?;
+    assert_eq!(rt; call(&rt, &mut host, "run p.xmtc --map m")?, 3);
+    assert!(rt; has_said(&host, "", "xmt: m: TooLong\n"));
+    Ok(())
+}

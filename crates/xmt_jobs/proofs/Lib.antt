@@ -1,0 +1,5 @@
+mod Broken
+mod Puts
+mod Sizes
+mod Loaded
+mod Programs

@@ -1,0 +1,7 @@
+pub mod Told
+pub mod Files
+pub mod Faults
+pub mod Runs
+pub mod Sources
+pub mod Images
+pub mod Ended

@@ -1,0 +1,133 @@
+//! Doing a job.
+ghost use Rattle.std.specs.Prelude.{◌≡◌, ◌≤◌, string_bytes};
+ghost use Rattle.std.specs.Option.{option_map};
+ghost use Rattle.xmt_base.specs.Host.{Rose, HasFile};
+ghost use Rattle.xmt_isa.specs.Valid.{IsValid};
+ghost use Rattle.xmt_cli.specs.JobOf.{AreInRange, HasRange, seen_job};
+ghost use Rattle.xmt_jobs.specs.Told.{told};
+ghost use Rattle.xmt_jobs.specs.Sources.{PutsImage};
+ghost use Rattle.xmt_jobs.specs.Ended.{HasEnded, HasEndedCompiling, HasEndedSimulating, HasEndedRunning, HasMap, HasFiles};
+
+use crate::loaded_image::{load_file, run_loaded};
+use crate::outcome::Outcome;
+use crate::source::compile_file;
+use image_loader::{admit, encode};
+use std::alloc::Global;
+use xmt_base::{Host, HostFault};
+use xmt_cli::Job;
+use xmt_isa::{Image, SimOptions};
+
+// Puts the bytes of an image into a file.
+fn put_image<H: Host>(alloc: Global, image: &Image, out: &str, host: &mut H) -> Outcome
+    requires valid { IsValid image.now }
+    ensures put { PutsImage image.now out.now (H.files host.old) (H.files host.new) result }
+    ensures fault { result ≡ Outcome.Fault → Rose (H.faults host.old) (H.faults host.new) }
+    ensures no_fault { H.steady host.old → H.faults host.new ≡ H.faults host.old }
+    ensures later { H.faults host.old ≤ H.faults host.new }
+    ensures steady { H.steady host.old → H.steady host.new }
+    ensures out { H.out host.new ≡ H.out host.old }
+    ensures err { H.err host.new ≡ H.err host.old }
+{
+    match encode(alloc, image) {
+        Err(_) => Outcome::NoMemory,
+        Ok(bytes) => match host.put(out, bytes.as_slice()) {
+            Ok(()) => Outcome::Done,
+            Err(HostFault::Failed) => Outcome::Fault,
+            Err(HostFault::NoMemory) => Outcome::NoMemory,
+        },
+    }
+}
+
+// Compiles the source in a file, and puts the image into another.
+fn compile_into<H: Host>(alloc: Global, file: &str, out: &str, host: &mut H) -> Outcome
+    ensures ended { HasEndedCompiling file.now out.now (told (H.files host.old) (H.out host.old) (H.err host.old) (H.faults host.old)) (told (H.files host.new) (H.out host.new) (H.err host.new) (H.faults host.new)) result }
+    ensures fault { result ≡ Outcome.Fault → Rose (H.faults host.old) (H.faults host.new) }
+    ensures no_fault { H.steady host.old → HasFile (H.files host.old) file.now → H.faults host.new ≡ H.faults host.old }
+    ensures later { H.faults host.old ≤ H.faults host.new }
+    ensures steady { H.steady host.old → H.steady host.new }
+    ensures err { H.err host.new ≡ H.err host.old }
+{
+    match compile_file(alloc, file, host) {
+        Err(outcome) => outcome,
+        Ok(image) => put_image(alloc, &image, out, host),
+    }
+}
+
+// Runs the image in a file.
+fn simulate_file<H: Host>(
+    alloc: Global,
+    file: &str,
+    options: &SimOptions,
+    map: &Option<String>,
+    dump: &Option<String>,
+    host: &mut H,
+) -> Outcome
+    requires range { AreInRange options.now }
+    ensures ended { HasEndedSimulating file.now options.now (option_map string_bytes map.now) (option_map string_bytes dump.now) (told (H.files host.old) (H.out host.old) (H.err host.old) (H.faults host.old)) (told (H.files host.new) (H.out host.new) (H.err host.new) (H.faults host.new)) result }
+    ensures fault { result ≡ Outcome.Fault → Rose (H.faults host.old) (H.faults host.new) }
+    ensures no_fault { H.steady host.old → HasFile (H.files host.old) file.now → HasMap (H.files host.old) (option_map string_bytes map.now) → H.faults host.new ≡ H.faults host.old }
+    ensures later { H.faults host.old ≤ H.faults host.new }
+    ensures steady { H.steady host.old → H.steady host.new }
+    ensures err { H.err host.new ≡ H.err host.old }
+{
+    match load_file(alloc, file, host) {
+        Err(outcome) => outcome,
+        Ok(image) => run_loaded(alloc, &image, options, map, dump, host),
+    }
+}
+
+// Compiles the source in a file, and runs the image.
+fn run_file<H: Host>(
+    alloc: Global,
+    file: &str,
+    options: &SimOptions,
+    map: &Option<String>,
+    dump: &Option<String>,
+    host: &mut H,
+) -> Outcome
+    requires range { AreInRange options.now }
+    ensures ended { HasEndedRunning file.now options.now (option_map string_bytes map.now) (option_map string_bytes dump.now) (told (H.files host.old) (H.out host.old) (H.err host.old) (H.faults host.old)) (told (H.files host.new) (H.out host.new) (H.err host.new) (H.faults host.new)) result }
+    ensures fault { result ≡ Outcome.Fault → Rose (H.faults host.old) (H.faults host.new) }
+    ensures no_fault { H.steady host.old → HasFile (H.files host.old) file.now → HasMap (H.files host.old) (option_map string_bytes map.now) → H.faults host.new ≡ H.faults host.old }
+    ensures later { H.faults host.old ≤ H.faults host.new }
+    ensures steady { H.steady host.old → H.steady host.new }
+    ensures err { H.err host.new ≡ H.err host.old }
+{
+    match compile_file(alloc, file, host) {
+        Err(outcome) => outcome,
+        Ok(image) => match admit(alloc, image) {
+            // A valid image is refused only for want of memory.
+            Err(_) => Outcome::NoMemory,
+            Ok(image) => run_loaded(alloc, &image, options, map, dump, host),
+        },
+    }
+}
+
+/// Does a job over a host. Compiling puts the image into a file, once the source is known to be
+/// accepted. A run prints at its steps, and puts its dump, where one is named, when it is done. The
+/// files are read in order: the source or the image, then the map.
+pub fn do_job<H: Host>(alloc: Global, job: &Job, host: &mut H) -> Outcome
+    requires range { HasRange job.now }
+    ensures ended { HasEnded (seen_job job.now) (told (H.files host.old) (H.out host.old) (H.err host.old) (H.faults host.old)) (told (H.files host.new) (H.out host.new) (H.err host.new) (H.faults host.new)) result }
+    ensures fault { result ≡ Outcome.Fault → Rose (H.faults host.old) (H.faults host.new) }
+    ensures no_fault { H.steady host.old → HasFiles (H.files host.old) (seen_job job.now) → H.faults host.new ≡ H.faults host.old }
+    ensures later { H.faults host.old ≤ H.faults host.new }
+    ensures steady { H.steady host.old → H.steady host.new }
+    ensures err { H.err host.new ≡ H.err host.old }
+{
+    match job {
+        Job::Compile { file, out } => compile_into(alloc, file.as_str(), out.as_str(), host),
+        Job::Simulate {
+            file,
+            options,
+            map,
+            dump,
+        } => simulate_file(alloc, file.as_str(), options, map, dump, host),
+        Job::Run {
+            file,
+            options,
+            map,
+            dump,
+        } => run_file(alloc, file.as_str(), options, map, dump, host),
+    }
+}

@@ -1,0 +1,53 @@
+//! Reading and compiling the source in a file.
+ghost use Rattle.std.specs.Prelude.{◌≡◌, ◌≤◌, Err, IfOk, IfErr};
+ghost use Rattle.xmt_base.specs.Host.{Rose, HasFile};
+ghost use Rattle.xmt_jobs.specs.Sources.{Implemented, CompilesNot, end_of_source};
+
+use crate::outcome::Outcome;
+use std::alloc::Global;
+use xmt_base::{Host, Place, TakeFault, take_file};
+use xmt_compile::{SourceKind, SourceRefusal, compile};
+use xmt_isa::Image;
+
+// The greatest number of bytes of a source.
+const LIMIT: u64 = 1 << 20;
+
+// Where a source begins.
+const FIRST: Place = Place { line: 1, column: 1 };
+
+// How a job ends whose source is refused.
+fn given_up(refusal: SourceRefusal) -> Outcome
+    ensures { result ≡ end_of_source refusal }
+{
+    match refusal {
+        SourceRefusal::Refused(kind, place) => Outcome::SourceRefused(kind, place),
+        SourceRefusal::NoMemory => Outcome::NoMemory,
+    }
+}
+
+/// The image of the source in a file, or how the job ends.
+pub(crate) fn compile_file<H: Host>(
+    alloc: Global,
+    file: &str,
+    host: &mut H,
+) -> Result<Image, Outcome>
+    ensures ok { IfOk result (Implemented (H.files host.old) file.now) }
+    ensures not { IfErr result (CompilesNot (H.files host.old) file.now) }
+    ensures fault { result ≡ Err Outcome.Fault → Rose (H.faults host.old) (H.faults host.new) }
+    ensures no_fault { H.steady host.old → HasFile (H.files host.old) file.now → H.faults host.new ≡ H.faults host.old }
+    ensures later { H.faults host.old ≤ H.faults host.new }
+    ensures steady { H.steady host.old → H.steady host.new }
+    ensures files { H.files host.new ≡ H.files host.old }
+    ensures out { H.out host.new ≡ H.out host.old }
+    ensures err { H.err host.new ≡ H.err host.old }
+{
+    match take_file(alloc, host, file, LIMIT) {
+        Err(TakeFault::Fault) => Err(Outcome::Fault),
+        Err(TakeFault::TooLong) => Err(Outcome::SourceRefused(SourceKind::TooLong, FIRST)),
+        Err(TakeFault::NoMemory) => Err(Outcome::NoMemory),
+        Ok(source) => match compile(alloc, source.as_slice()) {
+            Err(refusal) => Err(given_up(refusal)),
+            Ok(image) => Ok(image),
+        },
+    }
+}
