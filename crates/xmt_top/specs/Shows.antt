@@ -10,10 +10,10 @@ use Rattle.xmt_cli.specs.JobOf.{Task, compile, simulate, run, task_of}
 use Rattle.xmt_jobs.specs.declared.outcome.BytesFault.{BytesFault}
 use Rattle.xmt_jobs.specs.declared.outcome.Outcome.{Outcome}
 use Rattle.xmt_jobs.specs.declared.outcome.Outcome.TheVariants.{Done, SourceRefused, ImageRefused, MapRefused, Trap, Spent, Fault, NoMemory}
-use Rattle.xmt_jobs.specs.Told.{Told, WritesPart}
+use Rattle.xmt_jobs.specs.Told.{Told, IsSilent, WritesPart}
 use Rattle.xmt_jobs.specs.Ended.{HasEnded}
 use Rattle.xmt_top.specs.Complaints.{Complains}
-use Rattle.xmt_top.specs.Messages.{refusal_line, bytes_line, trap_line, spent_line, fault_line, no_memory_line}
+use Rattle.xmt_top.specs.Messages.{refusal_line, bytes_line, trap_line, spent_line, fault_line, no_job_line, no_memory_line}
 
 -- the words are a task, of which this holds
 abbrev pub ForTask : List Text → (Task → Type 0) → Type 0
@@ -76,6 +76,11 @@ ShowsTrap before now task = (trap : spec.Trap) × Shows before now task (Trap tr
 
 abbrev pub ShowsSpent : Told → Told → Task → Type 0
 ShowsSpent before now task = (unit : ℕ) × (steps : ℕ) × Shows before now task (Spent unit steps)
+
+-- memory ran out before a job was begun: nothing was done, and the line on that, or on words that are no job, may be cut off
+pub record ShowsNoWords (before now : Told) : Type 0 where
+  pub silent : IsSilent before now
+  pub line : WritesPart no_memory_line before.err now.err ⊎ WritesPart no_job_line before.err now.err
 
 -- memory ran out in the job, or when its end was told: the line may be cut off
 pub record ShowsNoMemory (before now : Told) (task : Task) : Type 0 where

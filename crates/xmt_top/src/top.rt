@@ -3,11 +3,11 @@ ghost use Rattle.std.specs.Prelude.{◌≡◌, ◌⊎◌, ◌≤◌, ◌∷◌, 
 ghost use Rattle.xmt_base.specs.Host.{Rose};
 ghost use Rattle.xmt_cli.specs.JobOf.{HasRange, seen_job, task_of};
 ghost use Rattle.xmt_jobs.specs.declared.outcome.Outcome.TheVariants as ended;
-ghost use Rattle.xmt_jobs.specs.Told.{told, IsSilent};
+ghost use Rattle.xmt_jobs.specs.Told.{told};
 ghost use Rattle.xmt_jobs.specs.Ended.{HasFiles};
 ghost use Rattle.xmt_top.specs.Complaints.{Complains};
 ghost use Rattle.xmt_top.specs.Messages.{no_job_line};
-ghost use Rattle.xmt_top.specs.Shows.{ForTask, Shows, ShowsDone, ShowsRefusedSource, ShowsRefusedBytes, ShowsTrap, ShowsSpent, ShowsNoMemory, Reported};
+ghost use Rattle.xmt_top.specs.Shows.{ForTask, Shows, ShowsDone, ShowsRefusedSource, ShowsRefusedBytes, ShowsTrap, ShowsSpent, ShowsNoMemory, ShowsNoWords, Reported};
 ghost use Rattle.xmt_top.specs.Completeness.{MustRefuseSource, MustRefuseBytes, MustRun, MustEnd};
 
 use crate::messages::{NO_JOB, NO_MEMORY};
@@ -42,7 +42,7 @@ pub fn xmt<H: Host>(alloc: Global, words: &[String], host: &mut H) -> Status
     ensures trapped { result.code ≡ 4 → ForTask (map string_bytes words.now) (ShowsTrap (told (H.files host.old) (H.out host.old) (H.err host.old) (H.faults host.old)) (told (H.files host.new) (H.out host.new) (H.err host.new) (H.faults host.new))) }
     ensures spent { result.code ≡ 5 → ForTask (map string_bytes words.now) (ShowsSpent (told (H.files host.old) (H.out host.old) (H.err host.old) (H.faults host.old)) (told (H.files host.new) (H.out host.new) (H.err host.new) (H.faults host.new))) }
     ensures failed { result.code ≡ 6 → ForTask (map string_bytes words.now) (λ task. Shows (told (H.files host.old) (H.out host.old) (H.err host.old) (H.faults host.old)) (told (H.files host.new) (H.out host.new) (H.err host.new) (H.faults host.new)) task ended.Fault) }
-    ensures no_memory { result.code ≡ 7 → IsSilent (told (H.files host.old) (H.out host.old) (H.err host.old) (H.faults host.old)) (told (H.files host.new) (H.out host.new) (H.err host.new) (H.faults host.new)) ⊎ ForTask (map string_bytes words.now) (ShowsNoMemory (told (H.files host.old) (H.out host.old) (H.err host.old) (H.faults host.old)) (told (H.files host.new) (H.out host.new) (H.err host.new) (H.faults host.new))) }
+    ensures no_memory { result.code ≡ 7 → ShowsNoWords (told (H.files host.old) (H.out host.old) (H.err host.old) (H.faults host.old)) (told (H.files host.new) (H.out host.new) (H.err host.new) (H.faults host.new)) ⊎ ForTask (map string_bytes words.now) (ShowsNoMemory (told (H.files host.old) (H.out host.old) (H.err host.old) (H.faults host.old)) (told (H.files host.new) (H.out host.new) (H.err host.new) (H.faults host.new))) }
     ensures no_job_line { result.code ≡ 2 → Complains no_job_line (told (H.files host.old) (H.out host.old) (H.err host.old) (H.faults host.old)) (told (H.files host.new) (H.out host.new) (H.err host.new) (H.faults host.new)) }
 
     // What stays.

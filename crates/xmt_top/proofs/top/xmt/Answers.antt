@@ -1,4 +1,4 @@
-use Rattle.std.proofs.Common.{◌∷◌, [], Contains, map, string_bytes, refl, inr, arith}
+use Rattle.std.proofs.Common.{◌∷◌, [], Contains, map, string_bytes, refl, inl, inr, arith}
 use Rattle.xmt_cli.specs.JobOf.{Task, seen_job}
 use Rattle.xmt_jobs.specs.Told.{told}
 use Rattle.xmt_jobs.specs.declared.outcome.Outcome.TheVariants.{Fault}
@@ -82,3 +82,10 @@ pub returns-in-Err-NoMemory-clause-complete : goal.returns-in-Err-NoMemory-claus
 returns-in-Err-NoMemory-clause-complete g c =
     λ calm. for_any (map string_bytes c.args.words.now) (λ (task : Task). MustEnd (g.H.Host.files c.args.host.now) task → Contains (0 ∷ 7 ∷ []) c.complain-in-Err-NoMemory.result.code)
     (λ task must. code_or (0 ∷ 7 ∷ []) 7 _ (1, omega arith, refl) (1, omega arith, refl) c.complain-in-Err-NoMemory.ensures.code)
+
+pub returns-in-Err-NotAJob-clause-no_memory : goal.returns-in-Err-NotAJob-clause-no_memory
+returns-in-Err-NotAJob-clause-no_memory g c = λ is. inl (record { silent = record { out = c.complain.ensures.out; files = c.complain.ensures.files }; line = inr c.complain.ensures.part })
+
+pub returns-in-Err-NoMemory-clause-no_memory : goal.returns-in-Err-NoMemory-clause-no_memory
+returns-in-Err-NoMemory-clause-no_memory g c =
+    λ is. inl (record { silent = record { out = c.complain-in-Err-NoMemory.ensures.out; files = c.complain-in-Err-NoMemory.ensures.files }; line = inl c.complain-in-Err-NoMemory.ensures.part })
