@@ -1,7 +1,7 @@
 //! Runs of a source over a host in memory, and their comparison with a row.
 use std::alloc::Global;
 use std::test::Fail;
-use xmt_base::{HostCall, MemoryHost};
+use xmt_host::{HostCall, MemoryHost};
 use xmt_top::xmt;
 
 /// A source with its exit code, output and error line.

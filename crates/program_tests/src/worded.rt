@@ -1,7 +1,7 @@
 //! Programs whose results hang on the words of the run.
 use crate::runs::{alike, run};
 use std::test::Fail;
-use xmt_base::HostCall;
+use xmt_host::HostCall;
 
 // Words, source, exit code, output and error.
 type Worded = (&'static str, &'static str, u8, &'static str, &'static str);
