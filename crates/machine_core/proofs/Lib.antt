@@ -10,5 +10,6 @@ pub mod Moved
 pub mod Printed
 pub mod Ran
 pub mod Seen
+pub mod Sole
 pub mod Texts
 pub mod Turned
