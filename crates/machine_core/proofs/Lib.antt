@@ -7,6 +7,7 @@ pub mod Frees
 pub mod Idle
 pub mod Legality
 pub mod Moved
+pub mod On
 pub mod Printed
 pub mod Ran
 pub mod Seen

@@ -49,7 +49,7 @@ pub record Turning (image : Image) (budget : ℕ) (m : kept.Machine) (k : ℕ) (
   pub means : Means image m.start budget seat.unit asked
   pub seen : slice_get (map (seen_seat m.spawned) m.seats.items) k ≡ Some (free seat.unit)
 
-turning_by : (image : Image) (budget : ℕ) (m : kept.Machine) (k : ℕ) (asked : engine.Ask) (s : Seat) → Kept image budget m → slice_get m.seats.items k ≡ Some s → is_active m.spawned s.unit ≡ true → s.ask ≡ asked → Turning image budget m k asked
+abbrev pub turning_by : (image : Image) (budget : ℕ) (m : kept.Machine) (k : ℕ) (asked : engine.Ask) (s : Seat) → Kept image budget m → slice_get m.seats.items k ≡ Some s → is_active m.spawned s.unit ≡ true → s.ask ≡ asked → Turning image budget m k asked
 turning_by image budget m k asked s kept there active asks =
     let may : MayGo image m.start budget s = may_go image budget m k s kept there active in
     let shown : seen m.spawned s.unit ≡ free s.unit = seen_active m.spawned s.unit active in

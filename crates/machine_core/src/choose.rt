@@ -4,6 +4,7 @@ ghost use Rattle.std.specs.Option.{option_copied};
 ghost use Rattle.xmt_isa.specs.Picked.{is_live, is_active, place_of, picks, state_after};
 ghost use Rattle.machine_core.specs.Seats.{unit_of};
 ghost use Rattle.machine_core.specs.Sole.{OnlyActive, sole_place, sole_choice};
+ghost use Rattle.machine_core.specs.Kept.{IsAt};
 ghost use Rattle.machine_core.specs.Goes.{asks_trap, asks_spent, seat_trapped, seat_spent, trap_choice, count_active, seats_choice, SeatGoesOn};
 
 use crate::machine::Machine;
@@ -201,4 +202,13 @@ pub(crate) fn choose(machine: &Machine, picker: &mut Picker) -> Choice
         None => choose_among(machine, picker),
         Some(k) => sole_choice(machine.spawned, &machine.seats[k], k),
     }
+}
+
+/// The unit in this place has a turn, and its next instruction touches it alone.
+pub(crate) fn pauses(machine: &Machine, k: usize) -> bool
+    requires inside { k < vec_len machine.now.seats }
+    ensures { result ≡ true → IsAt machine.now k Ask.Pause }
+{
+    let seat = &machine.seats[k];
+    is_active(machine.spawned, &seat.unit) && matches!(&seat.ask, Ask::Pause)
 }

@@ -5,11 +5,11 @@ ghost use Rattle.xmt_isa.specs.Opening.{begins};
 ghost use Rattle.xmt_isa.specs.Legal.{HasHalted};
 ghost use Rattle.machine_core.specs.Kept.{Kept};
 ghost use Rattle.machine_core.specs.View.{machine_of, run_of};
-ghost use Rattle.machine_core.specs.Runs.{HasEnded, PrintsPicked, Ends, data_words};
+ghost use Rattle.machine_core.specs.Runs.{RunsOn, HasEnded, PrintsPicked, Ends, data_words};
 
 use crate::cells::{behind, front};
-use crate::choose::choose;
-use crate::machine::Machine;
+use crate::choose::{choose, pauses, sole_place};
+use crate::machine::{Machine, run_more_alone};
 use crate::opening::opening;
 use crate::turn::take_turn;
 use image_loader::Loaded;
@@ -19,6 +19,25 @@ use std::alloc::{AllocError, Global};
 use xmt_base::{Memory, Picker};
 use xmt_host::{Host, HostFault};
 use xmt_isa::{Choice, Image};
+
+// How many instructions a unit that alone is active runs at a time, at most.
+const MANY: u32 = 1048576;
+
+// Runs the unit that alone may be active, if its next instruction touches it alone.
+fn run_on(image: &Loaded, budget: u64, machine: &mut Machine)
+    requires kept { Kept image.now budget machine.old }
+    ensures on { RunsOn image.now budget machine.old machine.new }
+    ensures len { vec_len machine.new.seats ≡ vec_len machine.old.seats }
+{
+    match sole_place(machine) {
+        None => {}
+        Some(k) => {
+            if pauses(machine, k) {
+                run_more_alone(image, budget, machine, k, MANY);
+            }
+        }
+    }
+}
 
 /// Runs the machine until an end is chosen.
 fn run_to_end<H: Host>(
@@ -43,6 +62,7 @@ fn run_to_end<H: Host>(
     ensures taken { H.taken host.new ≡ H.taken host.old }
 {
     'turns: loop {
+        run_on(image, budget, machine);
         match choose(machine, picker) {
             Choice::Step(k) => match take_turn(alloc, image, budget, machine, k, host) {
                 Ok(()) => {}
