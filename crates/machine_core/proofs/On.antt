@@ -1,5 +1,5 @@
 -- Turns of the only active unit, one after another, in which it runs instructions of its own.
-use Rattle.std.proofs.Common.{◌≡◌, refl, sym, ap, ◌∙◌, ℕ, zero, suc, ◌<◌, ◌≤◌, ◌^◌, ◌&&◌, ◌==◌, Bool, true, false, List, [], ◌∷◌, length, map, Option, Some, None, slice_get, slice_set, arith}
+use Rattle.std.proofs.Common.{◌≡◌, refl, sym, ap, ◌∙◌, ℕ, zero, suc, ◌<◌, ◌≤◌, ◌^◌, ◌&&◌, Bool, true, false, List, [], ◌∷◌, length, Some, slice_get, slice_set, arith}
 use Rattle.std.specs.Vec.{with_item}
 use Rattle.std.specs.Option.{IsSomeAnd, IfSome}
 use Rattle.std.proofs.lemmas.List.{length-set}
@@ -7,10 +7,9 @@ use Rattle.xmt_isa.specs.declared.image.Image.{Image}
 use Rattle.xmt_isa.specs.declared.run.Choice.TheVariants as choice
 use Rattle.xmt_isa.specs.declared.unit.Unit.{Unit}
 use Rattle.xmt_isa.specs.declared.unit.Start.{Start}
-use Rattle.xmt_isa.specs.declared.unit.Next.TheVariants as next
 use Rattle.xmt_isa.specs.Step.{is_due, local_of}
 use Rattle.xmt_isa.specs.Picked.{is_live, is_active, state_after}
-use Rattle.unit_steps.specs.Steps.{DoesNext, RunsAlone}
+use Rattle.unit_steps.specs.Steps.{RunsAlone}
 use Rattle.xmt_isa.specs.Fits.{UnitFits}
 use Rattle.tcu_engine.specs.Asks.{is_request}
 use Rattle.tcu_engine.specs.declared.ask.Ask.{Ask}
@@ -20,8 +19,8 @@ use Rattle.machine_core.specs.declared.seats.Seat.{Seat}
 use Rattle.machine_core.specs.declared.machine.Machine as kept
 use Rattle.machine_core.specs.Seats.{free, Means, Tells, HasRunOn, RanOn}
 use Rattle.machine_core.specs.Kept.{Kept, IsAt}
-use Rattle.machine_core.specs.Runs.{HasCome, RunsOn}
-use Rattle.machine_core.specs.Goes.{Goes, seats_choice, SeatGoesOn}
+use Rattle.machine_core.specs.Runs.{RunsOn}
+use Rattle.machine_core.specs.Goes.{Goes, SeatGoesOn}
 use Rattle.machine_core.specs.Sole.{sole_place, OnlyActive, sole_choice}
 use Rattle.machine_core.proofs.Advance.{fewer_left}
 use Rattle.machine_core.proofs.Asked.{not_new}
@@ -30,7 +29,7 @@ use Rattle.machine_core.proofs.Frees.{free_same, local_stepped}
 use Rattle.machine_core.proofs.Legality.{goes_on_turn}
 use Rattle.machine_core.proofs.Moved.{Turning, turning, turning_by, goes_alone}
 use Rattle.machine_core.proofs.Ran.{has_come_further}
-use Rattle.machine_core.proofs.Seen.{some_inside, at_some}
+use Rattle.machine_core.proofs.Seen.{at_some}
 use Rattle.machine_core.proofs.Sole.{only_active, sole_chosen, sole_state}
 use Rattle.machine_core.proofs.Turned.{turns_silent}
 

@@ -1,15 +1,13 @@
 -- The choice where one unit alone may be active.
-use Rattle.std.proofs.Common.{◌≡◌, ◌≢◌, refl, sym, ap, ◌∙◌, subst, ℕ, zero, suc, ◌+◌, ◌<◌, ◌≤◌, ◌==◌, ◌&&◌, nat_eq, nat_lt, Bool, true, false, cond, if◌then◌else◌, List, [], ◌∷◌, length, map, Option, Some, None, find, slice_get, arith}
+use Rattle.std.proofs.Common.{◌≡◌, ◌≢◌, refl, sym, ap, ◌∙◌, ℕ, zero, suc, ◌+◌, ◌==◌, ◌&&◌, Bool, true, false, cond, if◌then◌else◌, List, [], ◌∷◌, length, map, Option, Some, None, find, slice_get, arith}
 use Rattle.std.specs.List.{count_by}
-use Rattle.std.specs.Option.{IsSomeAnd}
 use Rattle.std.proofs.lemmas.Bool.Decides.{nat_tests}
 use Rattle.std.proofs.lemmas.List.Sums.{sum_by-cons}
 use Rattle.xmt_isa.specs.declared.image.Image.{Image}
-use Rattle.xmt_isa.specs.declared.run.Choice.{Choice}
 use Rattle.xmt_isa.specs.declared.run.Choice.TheVariants as choice
 use Rattle.xmt_isa.specs.declared.unit.Unit.{Unit}
 use Rattle.xmt_isa.specs.declared.unit.Start.{Start}
-use Rattle.xmt_isa.specs.Picked.{is_live, is_active, place_of, picks, state_after}
+use Rattle.xmt_isa.specs.Picked.{is_active, place_of, picks, state_after}
 use Rattle.tcu_engine.specs.declared.ask.Ask.{Ask}
 use Rattle.tcu_engine.specs.declared.ask.Ask.TheVariants.{Load, Store, Add, Draw, Print, Spawn, Pause, Stopped, Halt, Trap, Spent}
 use Rattle.machine_core.specs.declared.seats.Seat.{Seat}

@@ -50,7 +50,13 @@ pub(crate) fn run_alone(image: &Loaded, budget: u64, machine: &mut Machine, k: u
 }
 
 /// Runs instructions of the only active unit that touch it alone, one at least.
-pub(crate) fn run_more_alone(image: &Loaded, budget: u64, machine: &mut Machine, k: usize, most: u32)
+pub(crate) fn run_more_alone(
+    image: &Loaded,
+    budget: u64,
+    machine: &mut Machine,
+    k: usize,
+    most: u32,
+)
     requires kept { Kept image.now budget machine.old }
     requires inside { k < vec_len machine.old.seats }
     requires asks { IsAt machine.old k Ask.Pause }
