@@ -1,5 +1,6 @@
 //! Whole picked runs.
 ghost use Rattle.std.specs.Prelude.{◌≡◌, ◌≢◌, ◌≤◌, ◌<◌, ◌^◌, ℕ, List, [], length, vec_len, IfOk, OnErr};
+ghost use Rattle.xmt_host.specs.Told.{OnlyPrints};
 ghost use Rattle.xmt_host.specs.Host.{HasCause, Rose};
 ghost use Rattle.xmt_isa.specs.Opening.{begins};
 ghost use Rattle.xmt_isa.specs.Legal.{HasHalted};
@@ -51,15 +52,11 @@ fn run_to_end<H: Host>(
     requires kept { Kept image.now budget machine.old }
     requires few { vec_len machine.old.seats < 2 ^ 32 }
     ensures ends { IfOk result (λ end. (k : ℕ) → end ≢ Choice.Step k) }
-    ensures ended { IfOk result (λ end. HasEnded image.now budget (run_of machine.old [] picker.old.state) end machine.new (H.out host.old) (H.out host.new)) }
+    ensures ended { IfOk result (λ end. HasEnded image.now budget (run_of machine.old [] picker.old.state) end machine.new (H.told host.old).out (H.told host.new).out) }
     ensures halted { IfOk result (λ end. end ≡ Choice.Done → (out : List ℕ) → HasHalted (machine_of machine.new out)) }
-    ensures cut { OnErr result (PrintsPicked image.now budget (run_of machine.old [] picker.old.state) (H.out host.old) (H.out host.new)) }
-    ensures cause { HasCause (H.faults host.old) (H.faults host.new) result }
-    ensures no_fault { H.steady host.old → H.faults host.new ≡ H.faults host.old }
-    ensures steady { H.steady host.old → H.steady host.new }
-    ensures files { H.files host.new ≡ H.files host.old }
-    ensures err { H.err host.new ≡ H.err host.old }
-    ensures taken { H.taken host.new ≡ H.taken host.old }
+    ensures cut { OnErr result (PrintsPicked image.now budget (run_of machine.old [] picker.old.state) (H.told host.old).out (H.told host.new).out) }
+    ensures cause { HasCause (H.told host.old) (H.told host.new) result }
+    ensures only { OnlyPrints (H.told host.old) (H.told host.new) }
 {
     'turns: loop {
         run_on(image, budget, machine);
@@ -94,14 +91,9 @@ pub fn run_picked<H: Host>(
     requires some_units { 1 ≤ options.now.units }
     requires units { options.now.units ≤ 64 }
     requires memory { length memory.words ≡ length image.now.words }
-    ensures end { Ends image.now options.now.budget (begins image.now memory.words options.now.units seed) (H.out host.old) (H.out host.new) result }
-    ensures fault { result ≡ SimEnd.WriteFault → Rose (H.faults host.old) (H.faults host.new) }
-    ensures later { H.faults host.old ≤ H.faults host.new }
-    ensures no_fault { H.steady host.old → H.faults host.new ≡ H.faults host.old }
-    ensures steady { H.steady host.old → H.steady host.new }
-    ensures files { H.files host.new ≡ H.files host.old }
-    ensures err { H.err host.new ≡ H.err host.old }
-    ensures taken { H.taken host.new ≡ H.taken host.old }
+    ensures end { Ends image.now options.now.budget (begins image.now memory.words options.now.units seed) (H.told host.old).out (H.told host.new).out result }
+    ensures fault { result ≡ SimEnd.WriteFault → Rose (H.told host.old).faults (H.told host.new).faults }
+    ensures only { OnlyPrints (H.told host.old) (H.told host.new) }
 {
     let budget = options.budget;
     let mut machine = match opening(alloc, image, &memory, budget, options.units) {

@@ -114,8 +114,8 @@ turned image start budget done old u v valid alone fits has free does is steps =
 pub ran : (image : Image) (start : Start) (budget most done : ℕ) (old u v : Unit) (a : Ask) → done ≤ most → RunsAlone image start budget done old u → v ≡ u → ¬ DoesNext image start budget u next.Local
     → u.counts.steps ≤ budget → a ≡ is_at image start budget v → HasRun image start budget most old v a
 ran image start budget most done old u v a few alone same other within is = record {
-    count = done;
-    few = few;
-    alone = subst (λ (w : Unit). RunsAlone image start budget done old w) (sym same) alone;
-    pause = λ paused. absurd (other ((pause_when image start budget u a (is ∙ ap (λ (w : Unit). is_at image start budget w) same) within).0 paused));
-  }
+  count = done;
+  few = few;
+  alone = subst (λ (w : Unit). RunsAlone image start budget done old w) (sym same) alone;
+  pause = λ paused. absurd (other ((pause_when image start budget u a (is ∙ ap (λ (w : Unit). is_at image start budget w) same) within).0 paused));
+}
