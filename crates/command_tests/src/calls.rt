@@ -1,7 +1,7 @@
 //! Calls of the commands over a host in memory.
 use std::alloc::Global;
 use std::test::Fail;
-use xmt_host::{HostCall, MemoryHost};
+use xmt_host::MemoryHost;
 use xmt_top::xmt;
 
 /// The compaction of an array by prefix sums.
@@ -21,18 +21,10 @@ fn words_of(alloc: Global, line: &str) -> Result<Vec<String>, Fail> {
     Ok(words)
 }
 
-/// A host with these files, of which the named call may fail.
-pub(crate) fn host_of(
-    rt: &HostRuntime,
-    files: &[(&str, &[u8])],
-    failing: Option<(HostCall, u64)>,
-) -> Result<MemoryHost, Fail> {
+/// A host with these files.
+pub(crate) fn host_of(rt: &HostRuntime, files: &[(&str, &[u8])]) -> Result<MemoryHost, Fail> {
     let alloc = rt.alloc();
-    let mut list = Vec::new(alloc);
-    if let Some(call) = failing {
-        list.push(call)?;
-    }
-    let mut host = MemoryHost::new(alloc, list);
+    let mut host = MemoryHost::new(alloc, Vec::new(alloc));
     for (name, bytes) in files {
         host.with_file(name, Vec::from_slice(alloc, bytes)?)?;
     }
@@ -55,7 +47,7 @@ pub(crate) fn file<'a>(host: &'a MemoryHost, name: &str) -> Option<&'a [u8]> {
 
 /// The image of a source.
 pub(crate) fn image_of(rt: &HostRuntime, source: &str) -> Result<Vec<u8>, Fail> {
-    let mut host = host_of(rt, &[("p.xmtc", source.as_bytes())], None)?;
+    let mut host = host_of(rt, &[("p.xmtc", source.as_bytes())])?;
     if call(rt, &mut host, "cc p.xmtc --out p.img")? != 0 {
         return Err("the source is refused")?;
     }

@@ -45,7 +45,7 @@ fn image(alloc: Global, rows: &[Row]) -> Result<Vec<u8>, Fail> {
 
 // Whether `sim` of these bytes ends with this code and line, and prints nothing.
 fn ends(rt: &HostRuntime, bytes: &[u8], code: u8, err: &str) -> Result<bool, Fail> {
-    let mut host = host_of(rt, &[("p.img", bytes)], None)?;
+    let mut host = host_of(rt, &[("p.img", bytes)])?;
     let found = call(rt, &mut host, "sim p.img --budget 1000 --dump d")?;
     let dumped = file(&host, "d").is_some();
     Ok(found == code && has_said(&host, "", err) && dumped == (code == 0))
@@ -68,71 +68,6 @@ fn prefixes_are_short(rt: HostRuntime) -> Result<(), Fail> {
     Ok(())
 }
 
-// A byte of the image that is another, and what that gives.
-#[test]
-fn other_bytes_are_refused(rt: HostRuntime) -> Result<(), Fail> {
-    let rows: [(usize, u8, &str); 10] = [
-        (0, b'x', "BadMark"),
-        (3, 0, "BadMark"),
-        (4, 9, "BadVersion"),
-        (8, 0, "Extra"),
-        (8, 2, "Short"),
-        (64, 1, "BadSize"),
-        (68, 0, "BadOpcode"),
-        (68, 46, "BadOpcode"),
-        (69, 1, "BadRegister"),
-        (72, 1, "BadTarget"),
-    ];
-    for (at, byte, kind) in rows {
-        let mut bytes = image(rt.alloc(), &RETURN)?;
-        if let Some(place) = bytes.get_mut(at) {
-            *place = byte;
-        }
-        let err = format!(in rt.alloc(); "xmt: p.img: {kind}\n")?;
-        assert!(rt;
-            ends(&rt, bytes.as_slice(), 3, err.as_str())?,
-            "{byte} at {at}"
-        );
-    }
-    let mut longer = image(rt.alloc(), &RETURN)?;
-    longer.push(0)?;
-    assert!(rt; ends(&rt, longer.as_slice(), 3, "xmt: p.img: Extra\n")?);
-    Ok(())
-}
-
-// Images in instructions, and how they end.
-#[test]
-fn images_end(rt: HostRuntime) -> Result<(), Fail> {
-    let unending = [(20, 0, 0, 0, 0)];
-    let address = [(1, 8, 0, 0, 5), (34, 9, 8, 0, 0), (24, 0, 0, 0, 0)];
-    let depth = [(23, 0, 0, 0, 0), (24, 0, 0, 0, 0)];
-    let increment = [(1, 8, 0, 0, 2), (42, 8, 0, 0, 0), (24, 0, 0, 0, 0)];
-    let out_of_its_block = [
-        (44, 0, 0, 0, 0),
-        (20, 0, 0, 0, 3),
-        (45, 0, 0, 0, 0),
-        (24, 0, 0, 0, 0),
-    ];
-    let first = [(1, 0, 0, 0, 5), (24, 0, 0, 0, 0)];
-    let rows: [(&[Row], u8, &str); 6] = [
-        (
-            &unending,
-            5,
-            "xmt: budget spent by unit 0 after 1000 steps\n",
-        ),
-        (&address, 4, "xmt: trap Address line 2 serial\n"),
-        (&depth, 4, "xmt: trap CallDepth line 1 serial\n"),
-        (&increment, 4, "xmt: trap PsIncrement line 2 serial\n"),
-        (&out_of_its_block, 3, "xmt: p.img: BadRegion\n"),
-        (&first, 3, "xmt: p.img: BadRegister\n"),
-    ];
-    for (code, wanted, err) in rows {
-        let bytes = image(rt.alloc(), code)?;
-        assert!(rt; ends(&rt, bytes.as_slice(), wanted, err)?, "{err}");
-    }
-    Ok(())
-}
-
 // The limit, and one byte more.
 #[test]
 fn long_files_are_refused(rt: HostRuntime) -> Result<(), Fail> {
@@ -140,11 +75,7 @@ fn long_files_are_refused(rt: HostRuntime) -> Result<(), Fail> {
     assert!(rt; ends(&rt, bytes.as_slice(), 3, "xmt: p.img: BadMark\n")?);
     bytes.push(b' ')?;
     assert!(rt; ends(&rt, bytes.as_slice(), 3, "xmt: p.img: TooLong\n")?);
-    let mut host = host_of(
-        &rt,
-        &[("p.xmtc", b"main(){}"), ("m", bytes.as_slice())],
-        None,
-    )?;
+    let mut host = host_of(&rt, &[("p.xmtc", b"main(){}"), ("m", bytes.as_slice())])?;
     assert_eq!(rt; call(&rt, &mut host, "run p.xmtc --map m")?, 3);
     assert!(rt; has_said(&host, "", "xmt: m: TooLong\n"));
     Ok(())

@@ -1,14 +1,12 @@
-//! The commands over a host in memory: images on disk, maps and dumps, and `run` beside `cc` and
-//! then `sim`.
+//! The commands over a host in memory, where no row says it: cut images, limits at their edges, many seeds and budgets,
+//! and `run` beside `cc` and then `sim`.
 #![tactic(auto)]
 
 #[cfg(test)]
 mod calls;
 #[cfg(test)]
-mod faults;
-#[cfg(test)]
 mod images;
 #[cfg(test)]
-mod maps;
+mod limits;
 #[cfg(test)]
 mod pairs;

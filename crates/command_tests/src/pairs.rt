@@ -10,10 +10,10 @@ const RACE: &str = "int x; main() { spawn(0, 1) { x = $; } printf(\"%d\\n\", x);
 // Whether both ways agree: the code, the output, the line on the error stream and the dump.
 fn agree(rt: &HostRuntime, source: &str, image: &[u8], options: &str) -> Result<bool, Fail> {
     let alloc = rt.alloc();
-    let mut once = host_of(rt, &[("p.xmtc", source.as_bytes())], None)?;
+    let mut once = host_of(rt, &[("p.xmtc", source.as_bytes())])?;
     let run = format!(in alloc; "run p.xmtc --dump d {options}")?;
     let code = call(rt, &mut once, run.as_str())?;
-    let mut then = host_of(rt, &[("p.img", image)], None)?;
+    let mut then = host_of(rt, &[("p.img", image)])?;
     let sim = format!(in alloc; "sim p.img --dump d {options}")?;
     let other = call(rt, &mut then, sim.as_str())?;
     Ok(

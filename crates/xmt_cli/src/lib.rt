@@ -12,6 +12,3 @@ pub use given::{Given, Key, State};
 pub use job::{Command, Job, WordsRefusal};
 pub use laws::jobs_are_spelled;
 pub use read::{Start, read_words};
-
-#[cfg(test)]
-mod tests;

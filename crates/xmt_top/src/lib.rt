@@ -8,6 +8,3 @@ mod top;
 
 pub use report::Status;
 pub use top::xmt;
-
-#[cfg(test)]
-mod tests;
