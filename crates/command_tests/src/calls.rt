@@ -1,7 +1,7 @@
 //! Calls of the commands over a host in memory.
 use std::alloc::Global;
 use std::test::Fail;
-use xmt_base::{HostCall, MemoryHost};
+use xmt_host::{HostCall, MemoryHost};
 use xmt_top::xmt;
 
 /// The compaction of an array by prefix sums.

@@ -1,7 +1,7 @@
 //! The order of refusals, hosts that fail, and what stays then.
 use crate::calls::{COMPACTION, PAST_THE_END, call, file, has_said, host_of};
 use std::test::Fail;
-use xmt_base::HostCall;
+use xmt_host::HostCall;
 
 const FAULT: &str = "xmt: host fault\n";
 

@@ -4,8 +4,8 @@ use Rattle.std.specs.declared.option.Option.{Option}
 use Rattle.xmt_isa.specs.declared.image.Image.{Image}
 use Rattle.xmt_isa.specs.declared.run.Choice.{Choice}
 use Rattle.xmt_isa.specs.declared.run.Choice.TheVariants as choice
-use Rattle.xmt_isa.specs.declared.run.SimEnd.{SimEnd}
-use Rattle.xmt_isa.specs.declared.run.SimEnd.TheVariants.{Done, Trap, Spent, WriteFault, NoMemory}
+use Rattle.run_options.specs.declared.options.SimEnd.{SimEnd}
+use Rattle.run_options.specs.declared.options.SimEnd.TheVariants.{Done, Trap, Spent, WriteFault, NoMemory}
 use Rattle.xmt_isa.specs.Machine as spec
 use Rattle.xmt_isa.specs.Legal.{RunsTo, HasHalted}
 use Rattle.xmt_isa.specs.Picked.{PickedRun, picked, choice_of}

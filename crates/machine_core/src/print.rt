@@ -1,9 +1,9 @@
 //! Printing a whole text.
 ghost use Rattle.std.specs.Prelude.{◌≡◌, OnOk, OnErr};
-ghost use Rattle.xmt_base.specs.Host.{HasCause};
+ghost use Rattle.xmt_host.specs.Host.{HasCause};
 ghost use Rattle.machine_core.specs.Prints.{Prints, PrintsPart};
 
-use xmt_base::{Host, HostFault};
+use xmt_host::{Host, HostFault};
 
 /// Prints all the bytes; what the host doesn't take goes on as a further piece.
 pub(crate) fn print_all<H: Host>(host: &mut H, bytes: &[u8]) -> Result<(), HostFault>

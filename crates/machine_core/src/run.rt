@@ -1,6 +1,6 @@
 //! Whole picked runs.
 ghost use Rattle.std.specs.Prelude.{◌≡◌, ◌≢◌, ◌≤◌, ◌<◌, ◌^◌, ℕ, List, [], length, vec_len, IfOk, OnErr};
-ghost use Rattle.xmt_base.specs.Host.{HasCause, Rose};
+ghost use Rattle.xmt_host.specs.Host.{HasCause, Rose};
 ghost use Rattle.xmt_isa.specs.Opening.{begins};
 ghost use Rattle.xmt_isa.specs.Legal.{HasHalted};
 ghost use Rattle.machine_core.specs.Kept.{Kept};
@@ -13,10 +13,12 @@ use crate::machine::Machine;
 use crate::opening::opening;
 use crate::turn::take_turn;
 use image_loader::Loaded;
+use run_options::{SimEnd, SimOptions};
 use sqlite_items::Items;
 use std::alloc::{AllocError, Global};
-use xmt_base::{Host, HostFault, Memory, Picker};
-use xmt_isa::{Choice, Image, SimEnd, SimOptions};
+use xmt_base::{Memory, Picker};
+use xmt_host::{Host, HostFault};
+use xmt_isa::{Choice, Image};
 
 /// Runs the machine until an end is chosen.
 fn run_to_end<H: Host>(

@@ -1,6 +1,6 @@
 //! One turn of the machine, which prints to the host.
 ghost use Rattle.std.specs.Prelude.{◌≡◌, ◌<◌, OnOk, OnErr, slice_get, vec_len, IsSomeAnd};
-ghost use Rattle.xmt_base.specs.Host.{HasCause};
+ghost use Rattle.xmt_host.specs.Host.{HasCause};
 ghost use Rattle.machine_core.specs.Goes.{Goes, GoesSilently, SeatGoesOn};
 ghost use Rattle.machine_core.specs.Kept.{Kept, IsAt};
 ghost use Rattle.machine_core.specs.Turns.{Turns, IsCutShort};
@@ -11,7 +11,7 @@ use crate::seats::{piece_in, reply_in};
 use image_loader::Loaded;
 use std::alloc::{AllocError, Global};
 use tcu_engine::Ask;
-use xmt_base::{Host, HostFault};
+use xmt_host::{Host, HostFault};
 
 // Prints the text of the unit in this place, and answers it.
 fn print_in<H: Host>(

@@ -3,12 +3,14 @@ ghost use Rattle.std.specs.Prelude.{◌≡◌, ◌≤◌};
 use crate::programs::*;
 use image_loader::{Loaded, admit};
 use machine_core::run_picked;
+use run_options::{SimEnd, SimOptions};
 use sqlite_items::Items;
 use std::alloc::{AllocError, Global};
 use std::process::Abort;
 use std::test::Fail;
-use xmt_base::{HostCall, Memory, MemoryHost, Symbol, Trap, TrapKind};
-use xmt_isa::{FunctionEntry, Image, Instr, SimEnd, SimOptions};
+use xmt_base::{Memory, Symbol, Trap, TrapKind};
+use xmt_host::{HostCall, MemoryHost};
+use xmt_isa::{FunctionEntry, Image, Instr};
 
 // How a run ends, without its memory.
 #[derive(Clone, Copy, Debug, PartialEq, Eq)]

@@ -31,7 +31,7 @@ use Rattle.machine_places.proofs.Lists.{active_unit, some_same}
 use Rattle.machine_places.proofs.Units.{local_of-kept, answer_of-kept, next_of-draws}
 use Rattle.machine_runs.proofs.Opens.{control_units-length, no_parts, no_tallies, opening_follows, opening_steps}
 use Rattle.machine_runs.proofs.Sums.{after_steps}
-use Rattle.xmt_base.specs.Host.{capped}
+use Rattle.xmt_base.specs.Counters.{capped}
 use Rattle.machine_log.proofs.Standing.{never_true}
 use Rattle.machine_runs.proofs.Turns.{after_follows, master_active, unit_active}
 use Rattle.xmt_isa.specs.declared.unit.Request.TheVariants as request

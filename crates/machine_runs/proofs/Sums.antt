@@ -2,7 +2,7 @@
 use Rattle.std.proofs.Common.{◌≡◌, refl, sym, ◌∙◌, ap, ℕ, suc, zero, ◌+◌, ◌-◌, ◌≤◌, ◌^◌, ◌==◌, nat_lt, Bool, true, false, if◌then◌else◌, List, [], ◌∷◌, map, Option, Some, None, slice_get, slice_set, slice_index, arith}
 use Rattle.std.specs.Option.{IsSomeAnd}
 use Rattle.std.specs.List.{list_all}
-use Rattle.xmt_base.specs.Host.{capped}
+use Rattle.xmt_base.specs.Counters.{capped}
 use Rattle.xmt_base.specs.declared.values.TrapKind.TheVariants.{DivideByZero, Index, CallDepth}
 use Rattle.xmt_base.specs.declared.values.TrapKind.{TrapKind}
 use Rattle.xmt_base.specs.Operators.{binary_value}

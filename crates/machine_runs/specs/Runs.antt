@@ -1,7 +1,7 @@
 -- From a run of the machine to its log.
 use Rattle.std.specs.Prelude.{◌≡◌, ℕ, suc, ◌+◌, ◌<◌, ◌≤◌, true, false, List, length, ◌⊎◌, ◌↔◌, slice_get, slice_index}
 use Rattle.std.specs.declared.option.Option.TheVariants.{Some}
-use Rattle.xmt_base.specs.Host.{capped}
+use Rattle.xmt_base.specs.Counters.{capped}
 use Rattle.xmt_base.specs.declared.values.TrapKind.{TrapKind}
 use Rattle.xmt_isa.specs.declared.image.Image.{Image}
 use Rattle.xmt_isa.specs.declared.unit.Unit.{Unit}

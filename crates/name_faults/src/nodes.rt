@@ -1,6 +1,6 @@
 //! How many nodes a tree has. The numbers stay at the greatest u64.
 ghost use Rattle.std.specs.Prelude.{◌≡◌, map, sum, length};
-ghost use Rattle.xmt_base.specs.Host.{capped};
+ghost use Rattle.xmt_base.specs.Counters.{capped};
 ghost use Rattle.name_faults.specs.Nodes as spec;
 
 use name_scopes::{nodes, nodes_of_all, nodes_of_spot};

@@ -9,7 +9,7 @@ ghost use Rattle.name_scopes.specs.Table.{IsTable};
 ghost use Rattle.name_scopes.specs.Waiting as wait;
 ghost use Rattle.name_faults.specs.Expressions as part;
 ghost use Rattle.name_faults.specs.Statements as spec;
-ghost use Rattle.xmt_base.specs.Host.{capped};
+ghost use Rattle.xmt_base.specs.Counters.{capped};
 
 use crate::expressions::{
     faults, faults_of_spot, faults_of_values, meaning, register_fault, sum_fault, whole,

@@ -3,7 +3,7 @@
 ghost use Rattle.std.specs.Prelude.{◌≡◌, ◌+◌, ◌-◌, ◌^◌, suc, min, sum, map};
 ghost use Rattle.name_scopes.specs.Size as spec;
 ghost use Rattle.name_scopes.specs.Waiting as wait;
-ghost use Rattle.xmt_base.specs.Host.{capped};
+ghost use Rattle.xmt_base.specs.Counters.{capped};
 
 use raw_tree::{RawExpr, RawExprKind, RawSpot};
 use xmt_lex::Mark;

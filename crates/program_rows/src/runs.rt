@@ -1,7 +1,7 @@
 //! One run of a row's source.
 use std::alloc::{AllocError, Global};
 use test_rows::{Row, shown};
-use xmt_base::{HostCall, MemoryHost};
+use xmt_host::{HostCall, MemoryHost};
 use xmt_top::xmt;
 
 // An outcome as a text: code, output and error stream.

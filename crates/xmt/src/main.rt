@@ -5,7 +5,7 @@ use std::alloc::{AllocError, Global};
 use std::env;
 use std::io::ErrorKind;
 use std::process::ExitCode;
-use xmt_base::RealHost;
+use xmt_host::RealHost;
 use xmt_top::xmt;
 
 // The exit status where no memory is found for the words.

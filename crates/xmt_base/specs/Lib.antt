@@ -1,9 +1,6 @@
 pub mod Action
-pub mod FileMaps
+pub mod Counters
 pub mod Format
-pub mod Host
-pub mod HostCalls
-pub mod MemoryHost
 pub mod Name
 pub mod Operators
 pub mod Picker

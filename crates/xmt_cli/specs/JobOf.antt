@@ -3,7 +3,7 @@ use Rattle.std.specs.Prelude.{⊤, ◌≡◌, ◌≤◌, ◌^◌, ◌&&◌, Bool
 use Rattle.std.specs.declared.option.Option.{Option}
 use Rattle.std.specs.declared.option.Option.TheVariants.{Some, None}
 use Rattle.std.specs.Option.{option_and_then, option_map}
-use Rattle.xmt_isa.specs.declared.run.SimOptions.{SimOptions}
+use Rattle.run_options.specs.declared.options.SimOptions.{SimOptions}
 use Rattle.xmt_cli.specs.declared.job.Command.{Command}
 use Rattle.xmt_cli.specs.declared.job.Command.TheVariants.{Compile, Simulate, Run}
 use Rattle.xmt_cli.specs.declared.job.Job.{Job}

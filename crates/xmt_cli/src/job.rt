@@ -1,5 +1,5 @@
 //! Jobs.
-use xmt_isa::SimOptions;
+use run_options::SimOptions;
 
 /// What the first word asks for.
 #[derive(Clone, Copy, Debug, PartialEq, Eq)]

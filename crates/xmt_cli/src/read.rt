@@ -8,8 +8,8 @@ use crate::given::{Given, read_given};
 use crate::job::{Command, Job, WordsRefusal};
 use crate::numbers::{number_or, seed_of};
 use crate::texts::{command_of, is_file_name};
+use run_options::SimOptions;
 use std::alloc::{AllocError, Global};
-use xmt_isa::SimOptions;
 
 /// What a run begins with.
 #[derive(Clone, Copy, Debug)]

@@ -1,7 +1,7 @@
 use super::*;
+use run_options::SimOptions;
 use std::alloc::{AllocError, Global};
 use std::test::Fail;
-use xmt_isa::SimOptions;
 
 // The words of a line, parted by one space each.
 fn words_of(alloc: Global, line: &str) -> Result<Vec<String>, AllocError> {

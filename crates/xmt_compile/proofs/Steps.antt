@@ -2,7 +2,7 @@
 use Rattle.std.proofs.Common.{◌≡◌, refl, sym, ◌∙◌, ap, subst, ℕ, suc, zero, ◌+◌, ◌*◌, ◌<◌, ◌≤◌, ◌==◌, nat_lt, Bool, true, false, if◌then◌else◌, List, [], ◌∷◌, ◌++◌, length, append-nil, Some, None, slice_get, arith, inl, inr}
 use Rattle.std.proofs.lemmas.Bool.Decides.{nat_tests}
 use Rattle.xmt_base.specs.Action.{Action, Load, Store, Add, Print, Spawn, Trap, Ended}
-use Rattle.xmt_base.specs.Host.{capped}
+use Rattle.xmt_base.specs.Counters.{capped}
 use Rattle.interleaving.specs.Actors.{Move, Rests, Alone, Acts, part_of, Does, DoesThen, turns_of}
 use Rattle.interleaving.specs.Parts.{actions_of}
 use Rattle.interleaving.proofs.Interleave.{eq_of}

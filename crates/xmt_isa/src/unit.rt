@@ -43,24 +43,25 @@ pub struct Counts {
     pub threads: u64,
 }
 
-/// The master, which is number 0, or a control unit, counted from 1.
+/// The master, which is number 0, or a control unit, counted from 1. What each step looks at stands
+/// first.
 #[derive(Debug, Drop)]
 pub struct Unit {
-    pub number: u32,
     pub state: UnitState,
     /// What it asked for hasn't been answered yet.
     pub waits: bool,
     /// The next instruction.
     pub at: u32,
-    /// The number of the virtual thread that it runs.
-    pub thread: Option<u32>,
     /// How many calls it is in, at most 256.
     pub depth: u32,
-    /// Where calls go on when they return: 256 places, of which the first `depth` are used.
-    pub back: Items<u32>,
     pub regs: [u32; 32],
     /// The frames of all depths, 257 times 512 slots.
     pub frames: Items<u32>,
+    /// Where calls go on when they return: 256 places, of which the first `depth` are used.
+    pub back: Items<u32>,
+    pub number: u32,
+    /// The number of the virtual thread that it runs.
+    pub thread: Option<u32>,
     /// The argument list.
     pub list: [u32; 16],
     pub counts: Counts,
@@ -75,15 +76,15 @@ impl Unit {
         ensures fits { IfOk result (λ unit. (image : Image) (start : Start) → UnitFits image start unit) }
     {
         Ok(Unit {
-            number,
             state: UnitState::Draws,
             waits: false,
             at: 0,
-            thread: None,
             depth: 0,
-            back: zeros(alloc, DEPTHS)?,
             regs: [0; 32],
             frames: zeros(alloc, SLOTS)?,
+            back: zeros(alloc, DEPTHS)?,
+            number,
+            thread: None,
             list: [0; 16],
             counts: Counts {
                 steps: 0,

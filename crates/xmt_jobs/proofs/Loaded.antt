@@ -1,10 +1,10 @@
 -- From the run of a loaded image and its dump to what a job has done.
 use Rattle.std.proofs.Common.{◌≡◌, ◌∙◌, sym, subst, ℕ, List, Option, Some, None, inl, inr}
-use Rattle.xmt_base.specs.Host.{FileMap}
+use Rattle.xmt_host.specs.Host.{FileMap}
 use Rattle.xmt_isa.specs.declared.image.Image.{Image}
 use Rattle.xmt_isa.specs.declared.run.Choice.{Choice}
 use Rattle.xmt_isa.specs.declared.run.Choice.TheVariants as choice
-use Rattle.xmt_isa.specs.declared.run.SimOptions.{SimOptions}
+use Rattle.run_options.specs.declared.options.SimOptions.{SimOptions}
 use Rattle.xmt_isa.specs.Machine.{Machine}
 use Rattle.xmt_isa.specs.Legal.{HasHalted}
 use Rattle.machine_core.specs.Runs.{EndsAs, PrintsPicked, data_words}

@@ -1,13 +1,13 @@
 -- From the run of a loaded image to what the source that it implements has done.
 use Rattle.std.proofs.Common.{◌≡◌, ◌≢◌, ◌∙◌, refl, sym, ap, subst, ℕ, List, length, Option, Some, None, inl, inr}
 use Rattle.xmt_base.specs.declared.values.Symbol.{Symbol}
-use Rattle.xmt_base.specs.Host.{FileMap}
+use Rattle.xmt_host.specs.Host.{FileMap}
 use Rattle.source_meaning.specs.declared.tree.Program.{Program}
 use Rattle.source_meaning.specs.Layout.{all_words, opening_words, symbols_from}
 use Rattle.xmt_isa.specs.declared.image.Image.{Image}
 use Rattle.xmt_isa.specs.declared.run.Choice.{Choice}
 use Rattle.xmt_isa.specs.declared.run.Choice.TheVariants as choice
-use Rattle.xmt_isa.specs.declared.run.SimOptions.{SimOptions}
+use Rattle.run_options.specs.declared.options.SimOptions.{SimOptions}
 use Rattle.xmt_isa.specs.Machine.{Machine}
 use Rattle.xmt_isa.specs.Opening.{opening}
 use Rattle.xmt_isa.specs.Legal as machine

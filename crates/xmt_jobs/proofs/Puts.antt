@@ -1,9 +1,9 @@
 -- What a host's call that puts a file has done, by whether it was refused.
 use Rattle.std.proofs.Common.{◌≡◌, ℕ, List, Option, Some, None, Result, Ok, Err, OnOk, OnErr, sym, subst}
 use Rattle.std.specs.Prelude.{IsSomeAnd}
-use Rattle.xmt_base.specs.declared.host.HostFault.{HostFault}
-use Rattle.xmt_base.specs.Host as host
-use Rattle.xmt_base.specs.Host.{FileMap}
+use Rattle.xmt_host.specs.declared.host.HostFault.{HostFault}
+use Rattle.xmt_host.specs.Host as host
+use Rattle.xmt_host.specs.Host.{FileMap}
 use Rattle.xmt_cli.specs.Given.{Text}
 use Rattle.xmt_jobs.specs.Files.{Puts, PutsPart, HoldsPart, MayPut, MayPutPart}
 

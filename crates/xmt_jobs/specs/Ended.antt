@@ -2,12 +2,12 @@
 use Rattle.std.specs.Prelude.{◌≡◌, ◌⊎◌, ⊤, List}
 use Rattle.std.specs.declared.option.Option.{Option}
 use Rattle.std.specs.declared.option.Option.TheVariants.{Some, None}
-use Rattle.xmt_base.specs.Host.{FileMap, HasFile}
+use Rattle.xmt_host.specs.Host.{FileMap, HasFile}
 use Rattle.source_meaning.specs.declared.tree.Program.{Program}
 use Rattle.source_meaning.specs.Layout.{opening_words, symbols_from}
 use Rattle.xmt_isa.specs.declared.image.Image.{Image}
 use Rattle.xmt_isa.specs.declared.run.Choice.TheVariants as choice
-use Rattle.xmt_isa.specs.declared.run.SimOptions.{SimOptions}
+use Rattle.run_options.specs.declared.options.SimOptions.{SimOptions}
 use Rattle.xmt_cli.specs.Given.{Text}
 use Rattle.xmt_cli.specs.JobOf.{Task, compile, simulate, run}
 use Rattle.xmt_jobs.specs.declared.outcome.BytesFault.{BytesFault}

@@ -1,12 +1,12 @@
 -- What a job has done with the image in a file.
 use Rattle.std.specs.Prelude.{◌≡◌, ◌⊎◌, ⊤, ℕ, List}
 use Rattle.std.specs.declared.option.Option.{Option}
-use Rattle.xmt_base.specs.Host.{FileMap}
+use Rattle.xmt_host.specs.Host.{FileMap}
 use Rattle.xmt_base.specs.declared.values.Symbol.{Symbol}
 use Rattle.xmt_isa.specs.declared.image.Image.{Image}
 use Rattle.xmt_isa.specs.declared.run.Choice.{Choice}
 use Rattle.xmt_isa.specs.declared.run.Choice.TheVariants as choice
-use Rattle.xmt_isa.specs.declared.run.SimOptions.{SimOptions}
+use Rattle.run_options.specs.declared.options.SimOptions.{SimOptions}
 use Rattle.xmt_isa.specs.Machine.{Machine}
 use Rattle.machine_core.specs.Runs.{PrintsPicked}
 use Rattle.xmtsim_run.specs.Runs.{picked_run}

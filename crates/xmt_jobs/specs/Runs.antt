@@ -4,7 +4,7 @@ use Rattle.xmt_base.specs.declared.values.Symbol.{Symbol}
 use Rattle.xmt_isa.specs.declared.image.Image.{Image}
 use Rattle.xmt_isa.specs.declared.run.Choice.{Choice}
 use Rattle.xmt_isa.specs.declared.run.Choice.TheVariants as choice
-use Rattle.xmt_isa.specs.declared.run.SimOptions.{SimOptions}
+use Rattle.run_options.specs.declared.options.SimOptions.{SimOptions}
 use Rattle.xmt_isa.specs.Legal.{HasHalted}
 use Rattle.xmt_isa.specs.Machine.{Machine}
 use Rattle.machine_core.specs.Runs.{EndsAs, data_words}

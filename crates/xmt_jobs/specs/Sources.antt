@@ -3,7 +3,7 @@ use Rattle.std.specs.Prelude.{◌≡◌, ◌⊎◌, ⊤, ℕ, List, IsSomeAnd}
 use Rattle.std.specs.declared.option.Option.{Option}
 use Rattle.std.specs.Option.{ForSome}
 use Rattle.xmt_base.specs.declared.values.Place.{Place}
-use Rattle.xmt_base.specs.Host.{FileMap, IsWholeFile}
+use Rattle.xmt_host.specs.Host.{FileMap, IsWholeFile}
 use Rattle.source_meaning.specs.declared.tree.Program.{Program}
 use Rattle.source_meaning.specs.Layout.{opening_words, symbols_from}
 use Rattle.front_end.specs.declared.refusal.SourceKind.{SourceKind}
@@ -13,7 +13,7 @@ use Rattle.front_end.specs.Refused.{IsAccepted, Breaks}
 use Rattle.front_end.specs.Law.{HasNoProgram}
 use Rattle.xmt_isa.specs.declared.image.Image.{Image}
 use Rattle.xmt_isa.specs.declared.run.Choice.{Choice}
-use Rattle.xmt_isa.specs.declared.run.SimOptions.{SimOptions}
+use Rattle.run_options.specs.declared.options.SimOptions.{SimOptions}
 use Rattle.xmt_isa.specs.Machine.{Machine}
 use Rattle.xmt_isa.specs.Picked.{picked}
 use Rattle.image_loader.specs.Layout.{Bytes}

@@ -2,7 +2,7 @@
 use Rattle.std.specs.Prelude.{◌≡◌, ℕ, List, ◌++◌, take}
 use Rattle.std.specs.declared.option.Option.{Option}
 use Rattle.std.specs.Option.{option_map}
-use Rattle.xmt_base.specs.Host.{FileMap}
+use Rattle.xmt_host.specs.Host.{FileMap}
 
 -- each where the host tells it
 pub record Told : Type 0 where

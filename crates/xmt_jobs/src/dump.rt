@@ -1,14 +1,15 @@
 //! Putting the dump of a run.
 ghost use Rattle.std.specs.Prelude.{◌≡◌, ◌≤◌, OnOk, OnErr, length, string_bytes};
 ghost use Rattle.std.specs.Option.{option_map};
-ghost use Rattle.xmt_base.specs.Host.{HasCause};
+ghost use Rattle.xmt_host.specs.Host.{HasCause};
 ghost use Rattle.xmt_isa.specs.Symbols.{AreSymbols};
 ghost use Rattle.memory_map.specs.DumpText.{dump_text};
 ghost use Rattle.xmt_jobs.specs.Files.{MayPut, MayPutPart};
 
 use memory_map::write_map;
 use std::alloc::Global;
-use xmt_base::{Host, HostFault, Memory, Symbol};
+use xmt_base::{Memory, Symbol};
+use xmt_host::{Host, HostFault};
 
 /// Puts the dump of a memory into a file, where one is named.
 pub(crate) fn put_dump<H: Host>(

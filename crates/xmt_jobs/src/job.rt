@@ -1,7 +1,7 @@
 //! Doing a job.
 ghost use Rattle.std.specs.Prelude.{◌≡◌, ◌≤◌, string_bytes};
 ghost use Rattle.std.specs.Option.{option_map};
-ghost use Rattle.xmt_base.specs.Host.{Rose, HasFile};
+ghost use Rattle.xmt_host.specs.Host.{Rose, HasFile};
 ghost use Rattle.xmt_isa.specs.Valid.{IsValid};
 ghost use Rattle.xmt_cli.specs.JobOf.{AreInRange, HasRange, seen_job};
 ghost use Rattle.xmt_jobs.specs.Told.{told};
@@ -12,10 +12,11 @@ use crate::loaded_image::{load_file, run_loaded};
 use crate::outcome::Outcome;
 use crate::source::compile_file;
 use image_loader::{admit, encode};
+use run_options::SimOptions;
 use std::alloc::Global;
-use xmt_base::{Host, HostFault};
 use xmt_cli::Job;
-use xmt_isa::{Image, SimOptions};
+use xmt_host::{Host, HostFault};
+use xmt_isa::Image;
 
 // Puts the bytes of an image into a file.
 fn put_image<H: Host>(alloc: Global, image: &Image, out: &str, host: &mut H) -> Outcome

@@ -1,7 +1,7 @@
 //! Running a loaded image.
 ghost use Rattle.std.specs.Prelude.{◌≡◌, ◌≤◌, IfOk, IfErr, Err, length, string_bytes};
 ghost use Rattle.std.specs.Option.{option_map};
-ghost use Rattle.xmt_base.specs.Host.{Rose, HasFile};
+ghost use Rattle.xmt_host.specs.Host.{Rose, HasFile};
 ghost use Rattle.xmt_cli.specs.JobOf.{AreInRange};
 ghost use Rattle.memory_map.specs.DumpText.{dump_text};
 ghost use Rattle.xmt_jobs.specs.Told.{told};
@@ -14,9 +14,11 @@ use crate::dump::put_dump;
 use crate::map::{BYTE_LIMIT, opening_memory};
 use crate::outcome::{BytesFault, Outcome};
 use image_loader::{LoadRefusal, Loaded, load};
+use run_options::{SimEnd, SimOptions};
 use std::alloc::Global;
-use xmt_base::{Host, HostFault, Memory, TakeFault, take_file};
-use xmt_isa::{Image, SimEnd, SimOptions};
+use xmt_base::Memory;
+use xmt_host::{Host, HostFault, TakeFault, take_file};
+use xmt_isa::Image;
 use xmtsim_run::simulate;
 
 /// The image in a file, or how the job ends.

@@ -1,7 +1,7 @@
 //! The words that a run begins with.
 ghost use Rattle.std.specs.Prelude.{◌≡◌, ◌≤◌, Some, Err, IfOk, IfErr, length, string_bytes};
 ghost use Rattle.std.specs.Option.{option_map};
-ghost use Rattle.xmt_base.specs.Host.{Rose, HasFile};
+ghost use Rattle.xmt_host.specs.Host.{Rose, HasFile};
 ghost use Rattle.xmt_jobs.specs.Faults.{OpensAs, OpensNot, end_of_map};
 ghost use Rattle.xmt_jobs.specs.Ended.{HasMap};
 
@@ -10,7 +10,8 @@ use image_loader::Loaded;
 use memory_map::{MapRefusal, read_map};
 use sqlite_items::Items;
 use std::alloc::Global;
-use xmt_base::{Host, Memory, TakeFault, take_file};
+use xmt_base::Memory;
+use xmt_host::{Host, TakeFault, take_file};
 use xmt_isa::Image;
 
 /// The greatest number of bytes of an image and of a map.

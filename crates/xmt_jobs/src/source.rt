@@ -1,12 +1,13 @@
 //! Reading and compiling the source in a file.
 ghost use Rattle.std.specs.Prelude.{◌≡◌, ◌≤◌, Err, IfOk, IfErr};
-ghost use Rattle.xmt_base.specs.Host.{Rose, HasFile};
+ghost use Rattle.xmt_host.specs.Host.{Rose, HasFile};
 ghost use Rattle.xmt_jobs.specs.Sources.{Implemented, CompilesNot, end_of_source};
 
 use crate::outcome::Outcome;
 use std::alloc::Global;
-use xmt_base::{Host, Place, TakeFault, take_file};
+use xmt_base::Place;
 use xmt_compile::{SourceKind, SourceRefusal, compile};
+use xmt_host::{Host, TakeFault, take_file};
 use xmt_isa::Image;
 
 // The greatest number of bytes of a source.

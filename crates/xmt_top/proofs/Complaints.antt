@@ -2,7 +2,7 @@
 use Rattle.std.proofs.Common.{◌≡◌, subst, sym, ℕ, ◌≤◌, List, length, Option, Result, Ok, Err, inl, inr, arith, take_all}
 use Rattle.std.specs.Prelude.{OnOk, OnErr}
 use Rattle.std.proofs.lemmas.Grind.{common_steps}
-use Rattle.xmt_base.specs.Host.{Rose}
+use Rattle.xmt_host.specs.Host.{Rose}
 use Rattle.xmt_jobs.specs.Told.{Told, Writes, WritesPart}
 use Rattle.xmt_top.specs.Complaints.{Complains}
 

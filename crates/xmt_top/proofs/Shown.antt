@@ -1,7 +1,7 @@
 -- What a call shows, from what the job has done and what was reported.
 use Rattle.std.proofs.Common.{◌≡◌, ◌∙◌, ℕ, ◌≤◌, List, [], ◌∷◌, Contains, Option, Some, None, refl, sym, subst, inl, inr, arith}
 use Rattle.std.specs.Prelude.{IfSome}
-use Rattle.xmt_base.specs.Host.{Rose}
+use Rattle.xmt_host.specs.Host.{Rose}
 use Rattle.xmt_cli.specs.Given.{Text}
 use Rattle.xmt_cli.specs.JobOf.{Task, compile, simulate, run, task_of}
 use Rattle.xmt_jobs.specs.declared.outcome.Outcome.{Outcome}

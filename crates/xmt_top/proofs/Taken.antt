@@ -8,7 +8,7 @@ use Rattle.front_end.specs.declared.refusal.SourceKind.{SourceKind}
 use Rattle.xmt_isa.specs.declared.image.Image.{Image}
 use Rattle.xmt_isa.specs.declared.run.Choice.{Choice}
 use Rattle.xmt_isa.specs.declared.run.Choice.TheVariants as choice
-use Rattle.xmt_isa.specs.declared.run.SimOptions.{SimOptions}
+use Rattle.run_options.specs.declared.options.SimOptions.{SimOptions}
 use Rattle.xmt_isa.specs.Machine.{Machine, after}
 use Rattle.xmt_isa.specs.Opening.{opening}
 use Rattle.xmt_isa.specs.Picked.{picked}

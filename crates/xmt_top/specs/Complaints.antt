@@ -1,6 +1,6 @@
 -- What is complained of on the error stream, where the host tells it.
 use Rattle.std.specs.Prelude.{◌⊎◌, ℕ, List}
-use Rattle.xmt_base.specs.Host.{Rose}
+use Rattle.xmt_host.specs.Host.{Rose}
 use Rattle.xmt_jobs.specs.Told.{Told, Writes, WritesPart}
 
 -- the line was written; where the host failed in the call, it may be a prefix of the line

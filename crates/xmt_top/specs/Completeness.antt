@@ -6,7 +6,7 @@ use Rattle.std.specs.declared.option.Option.TheVariants.{Some, None}
 use Rattle.xmt_base.specs.declared.values.Symbol.{Symbol}
 use Rattle.xmt_base.specs.declared.values.Trap.{Trap}
 use Rattle.xmt_base.specs.declared.values.TrapKind.{TrapKind}
-use Rattle.xmt_base.specs.Host.{FileMap}
+use Rattle.xmt_host.specs.Host.{FileMap}
 use Rattle.source_meaning.specs.declared.tree.Program.{Program}
 use Rattle.source_meaning.specs.Layout.{opening_words, symbols_from}
 use Rattle.source_meaning.specs.Run as source
@@ -15,7 +15,7 @@ use Rattle.front_end.specs.Refused.{IsAccepted}
 use Rattle.front_end.specs.Law.{HasNoProgram}
 use Rattle.xmt_isa.specs.declared.image.Image.{Image}
 use Rattle.xmt_isa.specs.declared.unit.Unit as isa
-use Rattle.xmt_isa.specs.declared.run.SimOptions.{SimOptions}
+use Rattle.run_options.specs.declared.options.SimOptions.{SimOptions}
 use Rattle.xmt_isa.specs.Valid.{IsValid}
 use Rattle.xmt_isa.specs.Opening.{opening}
 use Rattle.xmt_isa.specs.Machine.{after}

@@ -3,7 +3,7 @@ use Rattle.std.specs.Prelude.{◌≡◌, ◌⊎◌, ℕ, ◌≤◌, List, [], un
 use Rattle.std.specs.declared.option.Option.{Option}
 use Rattle.xmt_base.specs.declared.values.Place.{Place}
 use Rattle.xmt_base.specs.declared.values.Trap as spec
-use Rattle.xmt_base.specs.Host.{Rose}
+use Rattle.xmt_host.specs.Host.{Rose}
 use Rattle.front_end.specs.declared.refusal.SourceKind.{SourceKind}
 use Rattle.xmt_cli.specs.Given.{Text}
 use Rattle.xmt_cli.specs.JobOf.{Task, compile, simulate, run, task_of}

@@ -1,9 +1,9 @@
 //! Handing a whole line to the host's error stream.
 ghost use Rattle.std.specs.Prelude.{◌≡◌, ◌≤◌, OnOk, OnErr};
-ghost use Rattle.xmt_base.specs.Host.{HasCause};
+ghost use Rattle.xmt_host.specs.Host.{HasCause};
 ghost use Rattle.xmt_jobs.specs.Told.{Writes, WritesPart};
 
-use xmt_base::{Host, HostFault};
+use xmt_host::{Host, HostFault};
 
 /// Complains of all the bytes. What the host doesn't take goes on as a further piece, and no bytes
 /// make no call.

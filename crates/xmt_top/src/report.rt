@@ -8,8 +8,8 @@ ghost use Rattle.xmt_top.specs.Shows.{code_of, file_of, line_of, map_of};
 use crate::messages::{HOST_FAULT, NO_MEMORY, bytes_line, refusal_line, spent_line, trap_line};
 use crate::print::complain_all;
 use std::alloc::{AllocError, Global};
-use xmt_base::{Host, HostFault};
 use xmt_cli::Job;
+use xmt_host::{Host, HostFault};
 use xmt_jobs::Outcome;
 
 /// How a job ended, as the exit status of the program.

@@ -1,7 +1,7 @@
 use super::*;
 use std::alloc::Global;
 use std::test::Fail;
-use xmt_base::{HostCall, MemoryHost};
+use xmt_host::{HostCall, MemoryHost};
 
 const SQUARES: &str =
     "int A[4]; int s; main() { spawn(0, 3) { A[$] = $ * $ + 1; } s = A[0] + A[1] + A[2] + A[3]; printf(\"%d\\n\", s); }";

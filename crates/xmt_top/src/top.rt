@@ -1,6 +1,6 @@
 //! The top call.
 ghost use Rattle.std.specs.Prelude.{◌≡◌, ◌⊎◌, ◌≤◌, ◌∷◌, [], None, Contains, map, string_bytes};
-ghost use Rattle.xmt_base.specs.Host.{Rose};
+ghost use Rattle.xmt_host.specs.Host.{Rose};
 ghost use Rattle.xmt_cli.specs.JobOf.{HasRange, seen_job, task_of};
 ghost use Rattle.xmt_jobs.specs.declared.outcome.Outcome.TheVariants as ended;
 ghost use Rattle.xmt_jobs.specs.Told.{told};
@@ -13,8 +13,8 @@ ghost use Rattle.xmt_top.specs.Completeness.{MustRefuseSource, MustRefuseBytes, 
 use crate::messages::{NO_JOB, NO_MEMORY};
 use crate::report::{Status, complain, report};
 use std::alloc::Global;
-use xmt_base::Host;
 use xmt_cli::{Job, WordsRefusal, read_words};
+use xmt_host::Host;
 use xmt_jobs::do_job;
 
 /// Does what the words of a command line say, over a host: `cc FILE --out FILE` compiles the source

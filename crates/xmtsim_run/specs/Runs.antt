@@ -1,7 +1,7 @@
 -- The run of an image under its options.
 use Rattle.std.specs.Prelude.{ℕ, List, unwrap_or}
 use Rattle.xmt_isa.specs.declared.image.Image.{Image}
-use Rattle.xmt_isa.specs.declared.run.SimOptions.{SimOptions}
+use Rattle.run_options.specs.declared.options.SimOptions.{SimOptions}
 use Rattle.xmt_isa.specs.Opening.{begins}
 use Rattle.xmt_isa.specs.Picked.{PickedRun}
 

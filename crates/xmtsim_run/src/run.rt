@@ -1,14 +1,15 @@
 //! The run of an image.
 ghost use Rattle.std.specs.Prelude.{◌≡◌, ◌≤◌, length};
-ghost use Rattle.xmt_base.specs.Host.{Rose};
+ghost use Rattle.xmt_host.specs.Host.{Rose};
 ghost use Rattle.machine_core.specs.Runs.{Ends};
 ghost use Rattle.xmtsim_run.specs.Runs.{picked_run};
 
 use image_loader::Loaded;
 use machine_core::run_picked;
+use run_options::{SimEnd, SimOptions};
 use std::alloc::Global;
-use xmt_base::{Host, Memory};
-use xmt_isa::{SimEnd, SimOptions};
+use xmt_base::Memory;
+use xmt_host::Host;
 
 /// Runs the image on a master and control units, which are all made first. Without a seed it is the
 /// run with seed 0.

@@ -1,5 +1,5 @@
 use Rattle.std.proofs.Common.{◌≡◌, take, map, sum}
-use Rattle.xmt_base.specs.Host.{capped}
+use Rattle.xmt_base.specs.Counters.{capped}
 use Rattle.raw_tree.specs.declared.tree.RawStmt.{RawStmt}
 use Rattle.name_faults.specs.Nodes as spec
 use Rattle.name_faults.proofs.nodes.+nodes.Given as goal

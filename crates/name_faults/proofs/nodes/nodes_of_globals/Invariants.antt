@@ -1,5 +1,5 @@
 use Rattle.std.proofs.Common.{◌≡◌, take, map, sum}
-use Rattle.xmt_base.specs.Host.{capped}
+use Rattle.xmt_base.specs.Counters.{capped}
 use Rattle.name_faults.specs.Nodes as spec
 use Rattle.name_faults.proofs.nodes.nodes_of_globals.Given as goal
 

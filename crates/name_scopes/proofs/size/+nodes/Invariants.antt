@@ -1,5 +1,5 @@
 use Rattle.std.proofs.Common.{◌≡◌, take, map, sum}
-use Rattle.xmt_base.specs.Host.{capped}
+use Rattle.xmt_base.specs.Counters.{capped}
 use Rattle.name_scopes.specs.Size as spec
 use Rattle.name_scopes.proofs.size.+nodes.Given as goal
 

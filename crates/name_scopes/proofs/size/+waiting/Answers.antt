@@ -1,5 +1,5 @@
 use Rattle.std.proofs.Common.{◌≡◌, ◌≤◌, ◌<◌, ◌+◌, ◌^◌, ℕ, max, List, drop, length, arith, ap, ◌∙◌}
-use Rattle.xmt_base.specs.Host.{capped}
+use Rattle.xmt_base.specs.Counters.{capped}
 use Rattle.raw_tree.specs.declared.tree.RawExpr.{RawExpr}
 use Rattle.name_scopes.specs.Waiting as spec
 use Rattle.name_scopes.proofs.Rows.{waiting_call, drop_all}

@@ -1,6 +1,6 @@
 //! Reading a whole file in pieces.
 ghost use Rattle.std.specs.Prelude.{◌≡◌, ◌+◌, ◌<◌, ◌≤◌, length, vec_len, IfOk, Err};
-ghost use Rattle.xmt_base.specs.Host.{Rose, RoseBy, HasFile, IsWholeFile, IsLonger};
+ghost use Rattle.xmt_host.specs.Host.{Rose, RoseBy, HasFile, IsWholeFile, IsLonger};
 
 use crate::{Host, HostFault};
 use std::alloc::{AllocError, Global};
@@ -21,7 +21,7 @@ pub enum TakeFault {
 
 impl From<AllocError> for TakeFault {
     ghost use Rattle.std.specs.Prelude.{◌≡◌};
-    ghost use Rattle.xmt_base.specs.declared.whole_file.TakeFault.TheVariants.{NoMemory};
+    ghost use Rattle.xmt_host.specs.declared.whole_file.TakeFault.TheVariants.{NoMemory};
 
     ghost from_gives = { λ _ fault. fault ≡ NoMemory };
 

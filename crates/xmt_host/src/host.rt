@@ -1,8 +1,8 @@
 //! What the toolchain reaches outside itself: files by name, standard output and standard error.
 ghost use Rattle.std.specs.Prelude.{◌≡◌, ◌≤◌, List, ℕ};
 ghost use Rattle.std.specs.declared.option.Option.{Option};
-ghost use Rattle.xmt_base.specs.declared.host.HostFault.TheVariants.{NoMemory};
-ghost use Rattle.xmt_base.specs.Host.{FileMap, HasCause, HasFile, Reads, RisesBy, Puts, Appends};
+ghost use Rattle.xmt_host.specs.declared.host.HostFault.TheVariants.{NoMemory};
+ghost use Rattle.xmt_host.specs.Host.{FileMap, HasCause, HasFile, Reads, RisesBy, Puts, Appends};
 
 use std::alloc::AllocError;
 

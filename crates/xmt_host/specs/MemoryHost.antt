@@ -1,11 +1,12 @@
 -- What a host in memory tells, and what its calls count.
 use Rattle.std.specs.Prelude.{◌≡◌, ◌+◌, ◌≤◌, Bool, true, false, IsTrue, ◌↔◌, slice_index, slice_set, Result, Err}
-use Rattle.xmt_base.specs.declared.host.HostFault.{HostFault}
-use Rattle.xmt_base.specs.declared.host.HostFault.TheVariants.{Failed}
-use Rattle.xmt_base.specs.Host.{capped}
-use Rattle.xmt_base.specs.declared.memory_host.HostCall.{HostCall}
-use Rattle.xmt_base.specs.HostCalls.{place_of, IsListed}
-use Rattle.xmt_base.specs.declared.memory_host.MemoryHost.{MemoryHost}
+use Rattle.xmt_base.specs.Counters.{capped}
+use Rattle.xmt_host.specs.declared.host.HostFault.{HostFault}
+use Rattle.xmt_host.specs.declared.host.HostFault.TheVariants.{Failed}
+use Rattle.xmt_base.specs.Counters.{capped}
+use Rattle.xmt_host.specs.declared.memory_host.HostCall.{HostCall}
+use Rattle.xmt_host.specs.HostCalls.{place_of, IsListed}
+use Rattle.xmt_host.specs.declared.memory_host.MemoryHost.{MemoryHost}
 
 -- a call of this kind is counted, and fails exactly where it is listed, which counts a fault; all else stays
 pub record Counts (call : HostCall) (failed : Bool) (old new : MemoryHost) : Type 0 where

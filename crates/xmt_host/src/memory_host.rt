@@ -1,8 +1,8 @@
 //! A host in memory, whose calls fail where they are told to.
 ghost use Rattle.std.specs.Prelude.{◌≡◌, ◌≤◌, [], length, replicate, OnOk, OnErr, IfSome, IfNone, IsSomeAnd};
 ghost use Rattle.std.specs.BTreeMap.{IsUnchanged};
-ghost use Rattle.xmt_base.specs.FileMaps.{file_map};
-ghost use Rattle.xmt_base.specs.Host.{ReadsPart, Holds};
+ghost use Rattle.xmt_host.specs.FileMaps.{file_map};
+ghost use Rattle.xmt_host.specs.Host.{ReadsPart, Holds};
 
 use crate::{Host, HostFault};
 use std::alloc::{AllocError, Global};
@@ -18,7 +18,7 @@ pub enum HostCall {
 }
 
 impl HostCall {
-    ghost use Rattle.xmt_base.specs.HostCalls.{place_of};
+    ghost use Rattle.xmt_host.specs.HostCalls.{place_of};
 
     // Its place among the counts.
     fn place(self) -> usize
@@ -48,7 +48,7 @@ pub struct MemoryHost {
 }
 
 impl MemoryHost {
-    ghost use Rattle.xmt_base.specs.MemoryHost.{Counts};
+    ghost use Rattle.xmt_host.specs.MemoryHost.{Counts};
 
     /// A host with no files and empty streams.
     pub fn new(alloc: Global, failing: Vec<(HostCall, u64)>) -> MemoryHost
@@ -143,11 +143,11 @@ fn store(
 
 impl Host for MemoryHost {
     ghost use Rattle.std.specs.Prelude.{◌≡◌, ◌≤◌, [], ◌++◌, Some, Err, IfOk, OnOk, length};
-    ghost use Rattle.xmt_base.specs.declared.host.HostFault.TheVariants.{Failed};
-    ghost use Rattle.xmt_base.specs.declared.memory_host.HostCall.TheVariants.{Read, Put, Print, Complain};
-    ghost use Rattle.xmt_base.specs.FileMaps.{file_map};
-    ghost use Rattle.xmt_base.specs.Host.{HasCause, HasFile, Reads, RisesBy, Puts, Appends};
-    ghost use Rattle.xmt_base.specs.MemoryHost.{IsCall};
+    ghost use Rattle.xmt_host.specs.declared.host.HostFault.TheVariants.{Failed};
+    ghost use Rattle.xmt_host.specs.declared.memory_host.HostCall.TheVariants.{Read, Put, Print, Complain};
+    ghost use Rattle.xmt_host.specs.FileMaps.{file_map};
+    ghost use Rattle.xmt_host.specs.Host.{HasCause, HasFile, Reads, RisesBy, Puts, Appends};
+    ghost use Rattle.xmt_host.specs.MemoryHost.{IsCall};
 
     ghost files = { λ host. Some (file_map host.files) };
 

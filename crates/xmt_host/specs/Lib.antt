@@ -1,0 +1,4 @@
+pub mod FileMaps
+pub mod Host
+pub mod HostCalls
+pub mod MemoryHost
