@@ -7,8 +7,10 @@ pub mod Frees
 pub mod Idle
 pub mod Legality
 pub mod Moved
+pub mod On
 pub mod Printed
 pub mod Ran
 pub mod Seen
+pub mod Sole
 pub mod Texts
 pub mod Turned

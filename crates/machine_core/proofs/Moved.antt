@@ -1,21 +1,19 @@
 -- Turns of the kept machine.
-use Rattle.std.proofs.Common.{◌≡◌, ◌≢◌, refl, sym, ap, ◌∙◌, subst, ℕ, zero, suc, ◌+◌, ◌<◌, ◌≤◌, ◌^◌, ◌%◌, ◌==◌, Bool, true, false, if◌then◌else◌, List, [], ◌∷◌, ◌++◌, append-nil, length, map, All, Option, Some, None, slice_get, slice_set, slice_index, arith, inl, inr}
+use Rattle.std.proofs.Common.{◌≡◌, refl, sym, ap, ◌∙◌, subst, ℕ, ◌+◌, ◌<◌, ◌^◌, ◌%◌, true, false, List, map, Some, slice_get, slice_set, slice_index, arith}
 use Rattle.std.specs.Prelude.{⊤}
-use Rattle.std.specs.List.{list_all}
 use Rattle.std.proofs.lemmas.Option.{slice_get-map}
-use Rattle.std.specs.Option.{IsSomeAnd, IfSome}
+use Rattle.std.specs.Option.{IfSome}
 use Rattle.xmt_isa.specs.declared.image.Image.{Image}
 use Rattle.xmt_isa.specs.declared.unit.Unit.{Unit}
 use Rattle.xmt_isa.specs.declared.unit.UnitState.{UnitState}
 use Rattle.xmt_isa.specs.declared.unit.UnitState.TheVariants as state
 use Rattle.xmt_isa.specs.declared.unit.Start.{Start}
-use Rattle.xmt_isa.specs.declared.unit.SpawnAsk.{SpawnAsk}
 use Rattle.xmt_isa.specs.declared.unit.Request.{Request}
 use Rattle.xmt_isa.specs.declared.unit.Request.TheVariants as request
 use Rattle.xmt_isa.specs.declared.unit.Next.{Next}
 use Rattle.xmt_isa.specs.declared.unit.Next.TheVariants.{Local, Ask}
-use Rattle.xmt_isa.specs.Step.{more, is_due, next_of, local_of, answer_of, draws}
-use Rattle.xmt_isa.specs.Machine.{Machine, turn, moves, serves, is_stopped}
+use Rattle.xmt_isa.specs.Step.{next_of, local_of, answer_of}
+use Rattle.xmt_isa.specs.Machine.{Machine, turn, moves, is_stopped}
 use Rattle.xmt_isa.specs.Picked.{is_live, is_active}
 use Rattle.unit_steps.specs.Steps.{DoesNext, answered}
 use Rattle.tcu_engine.specs.Asks.{ask_of, is_request}
@@ -23,12 +21,12 @@ use Rattle.tcu_engine.specs.declared.ask.Ask as engine
 use Rattle.tcu_engine.specs.declared.ask.Ask.TheVariants as ask
 use Rattle.machine_core.specs.declared.seats.Seat.{Seat}
 use Rattle.machine_core.specs.declared.machine.Machine as kept
-use Rattle.machine_core.specs.Seats.{free, has_stopped, Means, Tells, Holds, Replaced}
-use Rattle.machine_core.specs.Kept.{IsIdle, IsRunning, Serial, Parallel, KeptBy, Kept, MayGo, IsAt}
+use Rattle.machine_core.specs.Seats.{free, Means, Replaced}
+use Rattle.machine_core.specs.Kept.{Kept, MayGo, IsAt}
 use Rattle.machine_core.specs.View.{seen, seen_seat, machine_of}
 use Rattle.machine_core.specs.Goes.{Goes}
-use Rattle.machine_core.proofs.Frees.{Stepped, IsAnswered, Replies, free_same, next_free, answer_free, local_stepped, answer_stepped, draws_steps, draw_answer, not_due}
-use Rattle.machine_core.proofs.Seen.{some_of, if_some, at_some, may_go, seen_active, Puts, puts}
+use Rattle.machine_core.proofs.Frees.{IsAnswered, free_same, next_free, answer_free, local_stepped, answer_stepped}
+use Rattle.machine_core.proofs.Seen.{some_of, at_some, may_go, seen_active, Puts, puts}
 
 -- a turn of a unit that is there
 pub turn_at : (image : Image) (m : Machine) (k : ℕ) (u : Unit) (next : Next) → slice_get m.units k ≡ Some u → next_of image m.start u ≡ next → turn image m k ≡ moves image m k u next
@@ -49,7 +47,7 @@ pub record Turning (image : Image) (budget : ℕ) (m : kept.Machine) (k : ℕ) (
   pub means : Means image m.start budget seat.unit asked
   pub seen : slice_get (map (seen_seat m.spawned) m.seats.items) k ≡ Some (free seat.unit)
 
-turning_by : (image : Image) (budget : ℕ) (m : kept.Machine) (k : ℕ) (asked : engine.Ask) (s : Seat) → Kept image budget m → slice_get m.seats.items k ≡ Some s → is_active m.spawned s.unit ≡ true → s.ask ≡ asked → Turning image budget m k asked
+abbrev pub turning_by : (image : Image) (budget : ℕ) (m : kept.Machine) (k : ℕ) (asked : engine.Ask) (s : Seat) → Kept image budget m → slice_get m.seats.items k ≡ Some s → is_active m.spawned s.unit ≡ true → s.ask ≡ asked → Turning image budget m k asked
 turning_by image budget m k asked s kept there active asks =
     let may : MayGo image m.start budget s = may_go image budget m k s kept there active in
     let shown : seen m.spawned s.unit ≡ free s.unit = seen_active m.spawned s.unit active in

@@ -1,5 +1,5 @@
 -- A unit, kept together with what it does next.
-use Rattle.std.specs.Prelude.{◌≡◌, ℕ, ◌≤◌, Bool, true, false, List, slice_set}
+use Rattle.std.specs.Prelude.{◌≡◌, ℕ, suc, ◌≤◌, Bool, false, List, slice_set}
 use Rattle.xmt_isa.specs.declared.image.Image.{Image}
 use Rattle.xmt_isa.specs.declared.unit.Unit.{Unit}
 use Rattle.xmt_isa.specs.declared.unit.UnitState.TheVariants as state
@@ -8,7 +8,7 @@ use Rattle.xmt_isa.specs.declared.unit.Request.TheVariants as request
 use Rattle.xmt_isa.specs.declared.unit.Next.TheVariants as next
 use Rattle.xmt_isa.specs.Machine.{is_stopped}
 use Rattle.xmt_isa.specs.Fits.{UnitFits}
-use Rattle.unit_steps.specs.Steps.{is_new_master, DoesNext, HasSpent, StandsAtTrap}
+use Rattle.unit_steps.specs.Steps.{is_new_master, DoesNext, HasSpent, StandsAtTrap, RunsAlone}
 use Rattle.tcu_engine.specs.Asks.{is_request}
 use Rattle.tcu_engine.specs.declared.ask.Ask.{Ask}
 use Rattle.tcu_engine.specs.declared.ask.Ask.TheVariants.{Load, Store, Add, Draw, Print, Spawn, Pause, Stopped, Halt, Trap, Spent}
@@ -56,6 +56,18 @@ pub record Replaced (image : Image) (start : Start) (budget : ℕ) (old new : Li
   pub seat : Seat
   pub put : new ≡ slice_set old k seat
   pub holds : Holds image start budget known seat.unit seat.ask
+
+-- the unit has run some instructions of its own, and the answer says what it does next
+pub record HasRunOn (image : Image) (start : Start) (budget : ℕ) (known : Unit) (u : Unit) (ask : Ask) : Type 0 where
+  pub further : ℕ
+  pub alone : RunsAlone image start budget (suc further) known (free u)
+  pub tells : Tells image start budget u ask
+
+-- the unit in one place has run some instructions of its own, and no other has changed
+pub record RanOn (image : Image) (start : Start) (budget : ℕ) (old new : List Seat) (k : ℕ) (known : Unit) : Type 0 where
+  pub seat : Seat
+  pub put : new ≡ slice_set old k seat
+  pub runs : HasRunOn image start budget known seat.unit seat.ask
 
 -- a unit that wasn't asked yet
 abbrev pub seat_of : Unit → Seat

@@ -1,8 +1,10 @@
 //! How a picked run goes on.
-ghost use Rattle.std.specs.Prelude.{◌≡◌, ℕ, ◌^◌, ◌<◌, ◌≤◌, length, map, find, vec_len, slice_get, true, IsSomeAnd};
+ghost use Rattle.std.specs.Prelude.{◌≡◌, ℕ, ◌^◌, ◌<◌, ◌≤◌, length, map, find, vec_len, slice_get, true, Some, IsSomeAnd};
 ghost use Rattle.std.specs.Option.{option_copied};
 ghost use Rattle.xmt_isa.specs.Picked.{is_live, is_active, place_of, picks, state_after};
 ghost use Rattle.machine_core.specs.Seats.{unit_of};
+ghost use Rattle.machine_core.specs.Sole.{OnlyActive, sole_place, sole_choice};
+ghost use Rattle.machine_core.specs.Kept.{IsAt};
 ghost use Rattle.machine_core.specs.Goes.{asks_trap, asks_spent, seat_trapped, seat_spent, trap_choice, count_active, seats_choice, SeatGoesOn};
 
 use crate::machine::Machine;
@@ -10,6 +12,14 @@ use crate::seats::Seat;
 use tcu_engine::Ask;
 use xmt_base::Picker;
 use xmt_isa::{Choice, Unit, UnitState};
+
+// The places of the master and of the first control unit.
+const MASTER: usize = 0;
+
+const FIRST_UNIT: usize = 1;
+
+// How many units there are where there is one control unit.
+const ONE_UNIT: usize = 2;
 
 // It has neither stopped nor halted.
 fn is_live(state: UnitState) -> bool
@@ -127,9 +137,26 @@ fn pick(spawned: bool, seats: &[Seat], picker: &mut Picker) -> Choice
     Choice::Step(place_of(spawned, seats, i))
 }
 
-/// How the run goes on: it ends at the least unit at a trap, else at the least one that has spent the budget, else where
-/// no unit is active, else one of the active units has a turn.
-pub(crate) fn choose(machine: &Machine, picker: &mut Picker) -> Choice
+// How the run goes on where no unit but the one in this place is active.
+fn sole_choice(spawned: bool, seat: &Seat, k: usize) -> Choice
+    ensures { result ≡ sole_choice spawned k seat.now }
+{
+    if !is_active(spawned, &seat.unit) {
+        return Choice::Done;
+    }
+    match seat.ask {
+        Ask::Trap(trap) => Choice::Trap(trap),
+        Ask::Spent => Choice::Spent {
+            unit: seat.unit.number,
+            steps: seat.unit.counts.steps,
+        },
+        _ => Choice::Step(k),
+    }
+}
+
+// How the run goes on: it ends at the least unit at a trap, else at the least one that has spent the budget, else where
+// no unit is active, else one of the active units has a turn.
+fn choose_among(machine: &Machine, picker: &mut Picker) -> Choice
     requires few { vec_len machine.now.seats < 2 ^ 32 }
     ensures choice { result ≡ seats_choice machine.now.spawned machine.now.seats.items picker.old.state }
     ensures turn { (k : ℕ) → result ≡ Choice.Step k → IsSomeAnd (slice_get machine.now.seats.items k) (SeatGoesOn machine.now.spawned) }
@@ -147,4 +174,41 @@ pub(crate) fn choose(machine: &Machine, picker: &mut Picker) -> Choice
             None => pick(spawned, seats, picker),
         },
     }
+}
+
+/// The place of the unit that alone may be active.
+pub(crate) fn sole_place(machine: &Machine) -> Option<usize>
+    ensures { result ≡ sole_place machine.now.spawned machine.now.seats.items }
+{
+    if !machine.spawned {
+        Some(MASTER)
+    } else if machine.seats.len() == ONE_UNIT {
+        Some(FIRST_UNIT)
+    } else {
+        None
+    }
+}
+
+/// How the run goes on: it ends at the least unit at a trap, else at the least one that has spent the budget, else where
+/// no unit is active, else one of the active units has a turn.
+pub(crate) fn choose(machine: &Machine, picker: &mut Picker) -> Choice
+    requires few { vec_len machine.now.seats < 2 ^ 32 }
+    requires sole { (k : ℕ) → sole_place machine.now.spawned machine.now.seats.items ≡ Some k → OnlyActive machine.now.spawned machine.now.seats.items k }
+    ensures choice { result ≡ seats_choice machine.now.spawned machine.now.seats.items picker.old.state }
+    ensures turn { (k : ℕ) → result ≡ Choice.Step k → IsSomeAnd (slice_get machine.now.seats.items k) (SeatGoesOn machine.now.spawned) }
+    ensures state { (k : ℕ) → result ≡ Choice.Step k → picker.new.state ≡ state_after (count_active machine.now.spawned machine.now.seats.items) picker.old.state }
+{
+    match sole_place(machine) {
+        None => choose_among(machine, picker),
+        Some(k) => sole_choice(machine.spawned, &machine.seats[k], k),
+    }
+}
+
+/// The unit in this place has a turn, and its next instruction touches it alone.
+pub(crate) fn pauses(machine: &Machine, k: usize) -> bool
+    requires inside { k < vec_len machine.now.seats }
+    ensures { result ≡ true → IsAt machine.now k Ask.Pause }
+{
+    let seat = &machine.seats[k];
+    is_active(machine.spawned, &seat.unit) && matches!(&seat.ask, Ask::Pause)
 }

@@ -1,10 +1,12 @@
 //! The machine's turns over a plain vector of words.
-ghost use Rattle.std.specs.Prelude.{◌≡◌, ◌<◌, slice_set, slice_index, vec_len, OnOk};
+ghost use Rattle.std.specs.Prelude.{◌≡◌, ◌<◌, ◌≤◌, Some, slice_set, slice_index, vec_len, OnOk};
 ghost use Rattle.machine_core.specs.Goes.{Goes};
 ghost use Rattle.machine_core.specs.Kept.{Kept, IsAt};
+ghost use Rattle.machine_core.specs.Runs.{RunsOn};
+ghost use Rattle.machine_core.specs.Sole.{sole_place};
 
 use crate::cells::{look, put};
-use crate::seats::{Seat, reply_in, run_in};
+use crate::seats::{Seat, reply_in, run_in, run_more_in};
 use crate::sections::{begin_section, broadcast, have_stopped};
 use image_loader::Loaded;
 use std::alloc::AllocError;
@@ -45,6 +47,25 @@ pub(crate) fn run_alone(image: &Loaded, budget: u64, machine: &mut Machine, k: u
     ensures len { vec_len machine.new.seats ≡ vec_len machine.old.seats }
 {
     run_in(image, &machine.start, budget, &mut machine.seats, k);
+}
+
+/// Runs instructions of the only active unit that touch it alone, one at least.
+pub(crate) fn run_more_alone(
+    image: &Loaded,
+    budget: u64,
+    machine: &mut Machine,
+    k: usize,
+    most: u32,
+)
+    requires kept { Kept image.now budget machine.old }
+    requires inside { k < vec_len machine.old.seats }
+    requires asks { IsAt machine.old k Ask.Pause }
+    requires sole { sole_place machine.old.spawned machine.old.seats.items ≡ Some k }
+    requires some { 1 ≤ most }
+    ensures on { RunsOn image.now budget machine.old machine.new }
+    ensures len { vec_len machine.new.seats ≡ vec_len machine.old.seats }
+{
+    run_more_in(image, &machine.start, budget, &mut machine.seats, k, most);
 }
 
 /// Gives a unit the word that it asks for.

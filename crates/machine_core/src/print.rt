@@ -1,5 +1,6 @@
 //! Printing a whole text.
 ghost use Rattle.std.specs.Prelude.{◌≡◌, OnOk, OnErr};
+ghost use Rattle.xmt_host.specs.Told.{OnlyPrints};
 ghost use Rattle.xmt_host.specs.Host.{HasCause};
 ghost use Rattle.machine_core.specs.Prints.{Prints, PrintsPart};
 
@@ -7,14 +8,10 @@ use xmt_host::{Host, HostFault};
 
 /// Prints all the bytes; what the host doesn't take goes on as a further piece.
 pub(crate) fn print_all<H: Host>(host: &mut H, bytes: &[u8]) -> Result<(), HostFault>
-    ensures ok { OnOk result (Prints bytes.now (H.out host.old) (H.out host.new)) }
-    ensures part { OnErr result (PrintsPart bytes.now (H.out host.old) (H.out host.new)) }
-    ensures cause { HasCause (H.faults host.old) (H.faults host.new) result }
-    ensures no_fault { H.steady host.old → H.faults host.new ≡ H.faults host.old }
-    ensures steady { H.steady host.old → H.steady host.new }
-    ensures files { H.files host.new ≡ H.files host.old }
-    ensures err { H.err host.new ≡ H.err host.old }
-    ensures taken { H.taken host.new ≡ H.taken host.old }
+    ensures ok { OnOk result (Prints bytes.now (H.told host.old).out (H.told host.new).out) }
+    ensures part { OnErr result (PrintsPart bytes.now (H.told host.old).out (H.told host.new).out) }
+    ensures cause { HasCause (H.told host.old) (H.told host.new) result }
+    ensures only { OnlyPrints (H.told host.old) (H.told host.new) }
 {
     let mut at = 0;
     while at < bytes.len() {

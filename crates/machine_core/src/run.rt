@@ -1,15 +1,16 @@
 //! Whole picked runs.
 ghost use Rattle.std.specs.Prelude.{◌≡◌, ◌≢◌, ◌≤◌, ◌<◌, ◌^◌, ℕ, List, [], length, vec_len, IfOk, OnErr};
+ghost use Rattle.xmt_host.specs.Told.{OnlyPrints};
 ghost use Rattle.xmt_host.specs.Host.{HasCause, Rose};
 ghost use Rattle.xmt_isa.specs.Opening.{begins};
 ghost use Rattle.xmt_isa.specs.Legal.{HasHalted};
 ghost use Rattle.machine_core.specs.Kept.{Kept};
 ghost use Rattle.machine_core.specs.View.{machine_of, run_of};
-ghost use Rattle.machine_core.specs.Runs.{HasEnded, PrintsPicked, Ends, data_words};
+ghost use Rattle.machine_core.specs.Runs.{RunsOn, HasEnded, PrintsPicked, Ends, data_words};
 
 use crate::cells::{behind, front};
-use crate::choose::choose;
-use crate::machine::Machine;
+use crate::choose::{choose, pauses, sole_place};
+use crate::machine::{Machine, run_more_alone};
 use crate::opening::opening;
 use crate::turn::take_turn;
 use image_loader::Loaded;
@@ -19,6 +20,25 @@ use std::alloc::{AllocError, Global};
 use xmt_base::{Memory, Picker};
 use xmt_host::{Host, HostFault};
 use xmt_isa::{Choice, Image};
+
+// How many instructions a unit that alone is active runs at a time, at most.
+const MANY: u32 = 1048576;
+
+// Runs the unit that alone may be active, if its next instruction touches it alone.
+fn run_on(image: &Loaded, budget: u64, machine: &mut Machine)
+    requires kept { Kept image.now budget machine.old }
+    ensures on { RunsOn image.now budget machine.old machine.new }
+    ensures len { vec_len machine.new.seats ≡ vec_len machine.old.seats }
+{
+    match sole_place(machine) {
+        None => {}
+        Some(k) => {
+            if pauses(machine, k) {
+                run_more_alone(image, budget, machine, k, MANY);
+            }
+        }
+    }
+}
 
 /// Runs the machine until an end is chosen.
 fn run_to_end<H: Host>(
@@ -32,17 +52,14 @@ fn run_to_end<H: Host>(
     requires kept { Kept image.now budget machine.old }
     requires few { vec_len machine.old.seats < 2 ^ 32 }
     ensures ends { IfOk result (λ end. (k : ℕ) → end ≢ Choice.Step k) }
-    ensures ended { IfOk result (λ end. HasEnded image.now budget (run_of machine.old [] picker.old.state) end machine.new (H.out host.old) (H.out host.new)) }
+    ensures ended { IfOk result (λ end. HasEnded image.now budget (run_of machine.old [] picker.old.state) end machine.new (H.told host.old).out (H.told host.new).out) }
     ensures halted { IfOk result (λ end. end ≡ Choice.Done → (out : List ℕ) → HasHalted (machine_of machine.new out)) }
-    ensures cut { OnErr result (PrintsPicked image.now budget (run_of machine.old [] picker.old.state) (H.out host.old) (H.out host.new)) }
-    ensures cause { HasCause (H.faults host.old) (H.faults host.new) result }
-    ensures no_fault { H.steady host.old → H.faults host.new ≡ H.faults host.old }
-    ensures steady { H.steady host.old → H.steady host.new }
-    ensures files { H.files host.new ≡ H.files host.old }
-    ensures err { H.err host.new ≡ H.err host.old }
-    ensures taken { H.taken host.new ≡ H.taken host.old }
+    ensures cut { OnErr result (PrintsPicked image.now budget (run_of machine.old [] picker.old.state) (H.told host.old).out (H.told host.new).out) }
+    ensures cause { HasCause (H.told host.old) (H.told host.new) result }
+    ensures only { OnlyPrints (H.told host.old) (H.told host.new) }
 {
     'turns: loop {
+        run_on(image, budget, machine);
         match choose(machine, picker) {
             Choice::Step(k) => match take_turn(alloc, image, budget, machine, k, host) {
                 Ok(()) => {}
@@ -74,14 +91,9 @@ pub fn run_picked<H: Host>(
     requires some_units { 1 ≤ options.now.units }
     requires units { options.now.units ≤ 64 }
     requires memory { length memory.words ≡ length image.now.words }
-    ensures end { Ends image.now options.now.budget (begins image.now memory.words options.now.units seed) (H.out host.old) (H.out host.new) result }
-    ensures fault { result ≡ SimEnd.WriteFault → Rose (H.faults host.old) (H.faults host.new) }
-    ensures later { H.faults host.old ≤ H.faults host.new }
-    ensures no_fault { H.steady host.old → H.faults host.new ≡ H.faults host.old }
-    ensures steady { H.steady host.old → H.steady host.new }
-    ensures files { H.files host.new ≡ H.files host.old }
-    ensures err { H.err host.new ≡ H.err host.old }
-    ensures taken { H.taken host.new ≡ H.taken host.old }
+    ensures end { Ends image.now options.now.budget (begins image.now memory.words options.now.units seed) (H.told host.old).out (H.told host.new).out result }
+    ensures fault { result ≡ SimEnd.WriteFault → Rose (H.told host.old).faults (H.told host.new).faults }
+    ensures only { OnlyPrints (H.told host.old) (H.told host.new) }
 {
     let budget = options.budget;
     let mut machine = match opening(alloc, image, &memory, budget, options.units) {

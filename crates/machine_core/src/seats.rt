@@ -8,7 +8,7 @@ ghost use Rattle.xmt_isa.specs.Valid.{IsValid};
 ghost use Rattle.unit_steps.specs.Steps.{begun, answered};
 ghost use Rattle.unit_steps.specs.Keeps.{HasStart};
 ghost use Rattle.tcu_engine.specs.Asks.{is_request};
-ghost use Rattle.machine_core.specs.Seats.{Holds, Replaced};
+ghost use Rattle.machine_core.specs.Seats.{Holds, Replaced, HasRunOn, RanOn};
 ghost use Rattle.machine_core.specs.Kept.{MayGo};
 
 use image_loader::Loaded;
@@ -43,6 +43,16 @@ fn run_one(image: &Loaded, start: &Start, budget: u64, seat: &mut Seat)
     seat.ask = advance(image, start, &mut seat.unit, budget, 1);
 }
 
+// Runs instructions of a unit that touch it alone, one at least.
+fn run_more(image: &Loaded, start: &Start, budget: u64, seat: &mut Seat, most: u32)
+    requires may { MayGo image.now start.now budget seat.old }
+    requires pauses { seat.old.ask ≡ Ask.Pause }
+    requires some { 1 ≤ most }
+    ensures { HasRunOn image.now start.now budget seat.old.unit seat.new.unit seat.new.ask }
+{
+    seat.ask = advance(image, start, &mut seat.unit, budget, most);
+}
+
 // The reply to a unit that waits.
 fn reply(image: &Loaded, start: &Start, budget: u64, seat: &mut Seat, value: u64)
     requires may { MayGo image.now start.now budget seat.old }
@@ -61,6 +71,25 @@ pub(crate) fn run_in(image: &Loaded, start: &Start, budget: u64, seats: &mut Vec
     ensures { IfSome (slice_get seats.old.items k) (λ s. Replaced image.now start.now budget seats.old.items seats.new.items k (local_of image.now start.now s.unit)) }
 {
     run_one(image, start, budget, &mut seats[k]);
+}
+
+/// Runs instructions of the unit in this place that touch it alone, one at least.
+pub(crate) fn run_more_in(
+    image: &Loaded,
+    start: &Start,
+    budget: u64,
+    seats: &mut Vec<Seat>,
+    k: usize,
+    most: u32,
+)
+    requires inside { k < vec_len seats.old }
+    requires may { IfSome (slice_get seats.old.items k) (MayGo image.now start.now budget) }
+    requires pauses { IfSome (slice_get seats.old.items k) (λ s. s.ask ≡ Ask.Pause) }
+    requires some { 1 ≤ most }
+    ensures ran { IfSome (slice_get seats.old.items k) (λ s. RanOn image.now start.now budget seats.old.items seats.new.items k s.unit) }
+    ensures len { vec_len seats.new ≡ vec_len seats.old }
+{
+    run_more(image, start, budget, &mut seats[k], most);
 }
 
 /// The reply to what the unit in this place asks for.

@@ -1,5 +1,6 @@
 //! One turn of the machine, which prints to the host.
 ghost use Rattle.std.specs.Prelude.{◌≡◌, ◌<◌, OnOk, OnErr, slice_get, vec_len, IsSomeAnd};
+ghost use Rattle.xmt_host.specs.Told.{OnlyPrints};
 ghost use Rattle.xmt_host.specs.Host.{HasCause};
 ghost use Rattle.machine_core.specs.Goes.{Goes, GoesSilently, SeatGoesOn};
 ghost use Rattle.machine_core.specs.Kept.{Kept, IsAt};
@@ -27,15 +28,11 @@ fn print_in<H: Host>(
     requires inside { k < vec_len machine.old.seats }
     requires asks { IsAt machine.old k (Ask.Print text) }
     ensures kept { OnOk result (Kept image.now budget machine.new) }
-    ensures ok { OnOk result (Turns image.now k machine.old machine.new (H.out host.old) (H.out host.new)) }
-    ensures cut { OnErr result (IsCutShort image.now k machine.old (H.out host.old) (H.out host.new)) }
+    ensures ok { OnOk result (Turns image.now k machine.old machine.new (H.told host.old).out (H.told host.new).out) }
+    ensures cut { OnErr result (IsCutShort image.now k machine.old (H.told host.old).out (H.told host.new).out) }
     ensures len { vec_len machine.new.seats ≡ vec_len machine.old.seats }
-    ensures cause { HasCause (H.faults host.old) (H.faults host.new) result }
-    ensures no_fault { H.steady host.old → H.faults host.new ≡ H.faults host.old }
-    ensures steady { H.steady host.old → H.steady host.new }
-    ensures files { H.files host.new ≡ H.files host.old }
-    ensures err { H.err host.new ≡ H.err host.old }
-    ensures taken { H.taken host.new ≡ H.taken host.old }
+    ensures cause { HasCause (H.told host.old) (H.told host.new) result }
+    ensures only { OnlyPrints (H.told host.old) (H.told host.new) }
 {
     let bytes = match piece_in(
         alloc,
@@ -106,15 +103,11 @@ pub(crate) fn take_turn<H: Host>(
     requires inside { k < vec_len machine.old.seats }
     requires goes { IsSomeAnd (slice_get machine.old.seats.items k) (SeatGoesOn machine.old.spawned) }
     ensures kept { OnOk result (Kept image.now budget machine.new) }
-    ensures ok { OnOk result (Turns image.now k machine.old machine.new (H.out host.old) (H.out host.new)) }
-    ensures cut { OnErr result (IsCutShort image.now k machine.old (H.out host.old) (H.out host.new)) }
+    ensures ok { OnOk result (Turns image.now k machine.old machine.new (H.told host.old).out (H.told host.new).out) }
+    ensures cut { OnErr result (IsCutShort image.now k machine.old (H.told host.old).out (H.told host.new).out) }
     ensures len { vec_len machine.new.seats ≡ vec_len machine.old.seats }
-    ensures cause { HasCause (H.faults host.old) (H.faults host.new) result }
-    ensures no_fault { H.steady host.old → H.faults host.new ≡ H.faults host.old }
-    ensures steady { H.steady host.old → H.steady host.new }
-    ensures files { H.files host.new ≡ H.files host.old }
-    ensures err { H.err host.new ≡ H.err host.old }
-    ensures taken { H.taken host.new ≡ H.taken host.old }
+    ensures cause { HasCause (H.told host.old) (H.told host.new) result }
+    ensures only { OnlyPrints (H.told host.old) (H.told host.new) }
 {
     let asked = ask_in(machine, k);
     match asked {

@@ -13,9 +13,6 @@ ghost use Rattle.prefix_sum.specs.Low.{low, LowWordsAgree, LowRepliesAgree};
 
 use shared_words::{Pass, Words};
 
-#[cfg(test)]
-mod tests;
-
 const NEXT_THREAD: u32 = 1;
 
 const HALT: u32 = 3;

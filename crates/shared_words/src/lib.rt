@@ -8,8 +8,6 @@
 mod log;
 mod rule;
 mod table;
-#[cfg(test)]
-mod tests;
 
 pub use log::{Action, Entry, History, Known};
 pub use table::{Pass, Words};

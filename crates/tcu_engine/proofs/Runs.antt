@@ -18,7 +18,9 @@ use Rattle.xmt_isa.specs.Valid.{IsValid}
 use Rattle.xmt_isa.specs.Fits.{UnitFits}
 use Rattle.unit_steps.specs.Steps.{is_new_master, DoesNext, RunsAlone}
 use Rattle.unit_steps.specs.Keeps.{HasStart, IsThere}
-use Rattle.tcu_engine.specs.Looks.{HasPlace}
+use Rattle.tcu_engine.specs.declared.ask.Ask.{Ask}
+use Rattle.tcu_engine.specs.Looks.{is_at, HasPlace, HasRun}
+use Rattle.tcu_engine.proofs.Looks.{pause_when}
 use Rattle.unit_steps.proofs.Keeps.{keeps_fit}
 
 -- what a local instruction leaves
@@ -107,3 +109,13 @@ turned image start budget done old u v valid alone fits has free does is steps =
       begun = and_false (v.number == 0) (is_due v.state) (left.due due);
       within = omega (arith, steps, below);
     }
+
+-- where nothing more is run the unit is as it was, and pauses nowhere
+pub ran : (image : Image) (start : Start) (budget most done : ℕ) (old u v : Unit) (a : Ask) → done ≤ most → RunsAlone image start budget done old u → v ≡ u → ¬ DoesNext image start budget u next.Local
+    → u.counts.steps ≤ budget → a ≡ is_at image start budget v → HasRun image start budget most old v a
+ran image start budget most done old u v a few alone same other within is = record {
+  count = done;
+  few = few;
+  alone = subst (λ (w : Unit). RunsAlone image start budget done old w) (sym same) alone;
+  pause = λ paused. absurd (other ((pause_when image start budget u a (is ∙ ap (λ (w : Unit). is_at image start budget w) same) within).0 paused));
+}

@@ -1,5 +1,5 @@
 -- What a unit is at, as it is looked at.
-use Rattle.std.specs.Prelude.{⊤, ◌≡◌, ℕ, ◌^◌, ◌<◌, ◌≤◌, ◌==◌, if◌then◌else◌, slice_index}
+use Rattle.std.specs.Prelude.{⊤, ◌≡◌, ℕ, ◌^◌, ◌<◌, ◌≤◌, ◌==◌, if◌then◌else◌, Bool, true, false, slice_index}
 use Rattle.xmt_base.specs.declared.values.Trap as spec
 use Rattle.xmt_base.specs.declared.values.TrapKind.{TrapKind}
 use Rattle.xmt_isa.specs.declared.image.Image.{Image}
@@ -29,6 +29,12 @@ HasPlace (request.Add word value) = word < 2 ^ 32
 HasPlace request.Draw = ⊤
 HasPlace (request.Print text) = ⊤
 HasPlace (request.Spawn ask) = ⊤
+
+-- an instruction that touches the unit alone
+abbrev pub is_local : Next → Bool
+is_local next.Local = true
+is_local (next.Trap kind) = false
+is_local (next.Ask request) = false
 
 -- what a unit that is live and has steps left is at
 abbrev pub at_next : Image → Unit → Next → Ask

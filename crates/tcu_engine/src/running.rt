@@ -1,11 +1,11 @@
 //! Running a unit until it asks for something.
-ghost use Rattle.std.specs.Prelude.{◌≡◌, ◌≢◌, ◌↔◌, ◌≤◌, true, false};
+ghost use Rattle.std.specs.Prelude.{◌≡◌, ◌≢◌, ◌↔◌, ◌≤◌, if◌then◌else◌, true, false};
 ghost use Rattle.xmt_base.specs.declared.values.Trap.{Trap};
 ghost use Rattle.xmt_isa.specs.declared.unit.Request.{Request};
 ghost use Rattle.xmt_isa.specs.declared.unit.Next.TheVariants as next;
 ghost use Rattle.xmt_isa.specs.declared.unit.UnitState.TheVariants as state;
 ghost use Rattle.xmt_isa.specs.Picked.{is_live};
-ghost use Rattle.xmt_isa.specs.Step.{next_of};
+ghost use Rattle.xmt_isa.specs.Step.{next_of, local_of, is_due, more};
 ghost use Rattle.xmt_isa.specs.Valid.{IsValid};
 ghost use Rattle.xmt_isa.specs.Fits.{UnitFits, StartFits};
 ghost use Rattle.unit_steps.specs.Steps.{is_new_master, DoesNext, HasSpent, StandsAtTrap};
@@ -81,6 +81,29 @@ fn look_at(image: &Image, start: &Start, unit: &Unit, budget: u64) -> Ask
     }
 }
 
+// The unit runs, and isn't due to draw.
+fn is_running(state: UnitState) -> bool
+    ensures live { result ≡ true → is_live state ≡ true }
+    ensures due { result ≡ true → is_due state ≡ false }
+    ensures runs { is_live state ≡ true → is_due state ≡ false → result ≡ true }
+{
+    match state {
+        UnitState::Runs => true,
+        UnitState::Draws | UnitState::Stopped | UnitState::Halted => false,
+    }
+}
+
+// Runs the unit's next instruction if it touches the unit alone, and says whether it does.
+fn step(image: &Image, start: &Start, unit: &mut Unit, budget: u64) -> bool
+    requires small { IsSmall image.now }
+    requires within { unit.old.counts.steps ≤ budget }
+    ensures local { (result ≡ true) ↔ DoesNext image.now start.now budget unit.old next.Local }
+    ensures unit { unit.new ≡ (if result then local_of image.now start.now unit.old else unit.old) }
+    ensures steps { result ≡ true → unit.new.counts.steps ≡ more unit.old.counts.steps }
+{
+    is_running(unit.state) && unit.counts.steps < budget && run_local(image, start, unit)
+}
+
 // Runs at most so many instructions of the unit's own, and says what it is at then.
 fn run(image: &Image, start: &Start, unit: &mut Unit, budget: u64, most: u32) -> Ask
     requires valid { IsValid image.now }
@@ -99,9 +122,8 @@ fn run(image: &Image, start: &Start, unit: &mut Unit, budget: u64, most: u32) ->
 {
     let mut done = 0;
     while done < most {
-        match look_at(image, start, unit, budget) {
-            Ask::Pause => run_local(image, start, unit),
-            ask => return ask,
+        if !step(image, start, unit, budget) {
+            return look_at(image, start, unit, budget);
         }
         done += 1;
     }

@@ -1,14 +1,16 @@
 //! One instruction of one unit.
-ghost use Rattle.std.specs.Prelude.{◌≡◌, ◌+◌, ◌^◌, ◌<◌, ◌==◌, if◌then◌else◌, length, slice_index, slice_set, OnSome};
+ghost use Rattle.std.specs.Prelude.{◌≡◌, ◌+◌, ◌^◌, ◌<◌, ◌==◌, if◌then◌else◌, true, false, nat_lt, unwrap_or, length, slice_index, slice_set, OnSome};
 ghost use Rattle.xmt_isa.specs.declared.unit.Request.TheVariants as request;
 ghost use Rattle.xmt_isa.specs.declared.unit.Next.TheVariants.{Local, Trap};
+ghost use Rattle.xmt_base.specs.Operators.{binary_value};
 ghost use Rattle.xmt_isa.specs.Image.{operation_at, start_of};
 ghost use Rattle.xmt_isa.specs.Step.{reg, goes, goes_on, sets, word_of, access, adds, divides, next_at, next_of, is_due, calls, returns, slot, local_at, local_of, more};
 ghost use Rattle.unit_steps.specs.Steps.{begun};
+ghost use Rattle.tcu_engine.specs.Looks.{is_local};
 ghost use Rattle.tcu_engine.specs.Sizes.{IsSmall};
 
 use crate::cells::{look, put, put_item};
-use xmt_base::{TrapKind, binary, unary};
+use xmt_base::{BinOp, TrapKind, binary, unary};
 use xmt_isa::{Image, Location, Next, Operation, Request, SpawnAsk, Start, Unit, UnitState};
 
 /// The instruction at a place.
@@ -317,12 +319,57 @@ fn write_argument(unit: &mut Unit, b: u8, i: u32)
     goes_on(unit);
 }
 
-// The local instruction at an operation.
-fn local_at(image: &Image, start: &Start, unit: &mut Unit, operation: Operation)
+// Sets a register to a binary operation's value if it has one, and says whether it has.
+fn run_binary(unit: &mut Unit, op: BinOp, a: u8, b: u8, c: u8) -> bool
+    requires { unit.old.at + 1 < 2 ^ 32 }
+    ensures local { result ≡ is_local (divides (binary_value op (reg unit.old b) (reg unit.old c))) }
+    ensures unit { unit.new ≡ (if result then sets unit.old a (unwrap_or (binary_value op (reg unit.old b) (reg unit.old c)) 0) else unit.old) }
+    ensures steps { result ≡ true → unit.new.counts.steps ≡ more unit.old.counts.steps }
+{
+    match binary(op, reg(unit, b), reg(unit, c)) {
+        None => false,
+        Some(value) => {
+            sets(unit, a, value);
+            true
+        }
+    }
+}
+
+// Enters a function if the unit isn't too deep, and says whether it did.
+fn run_call(image: &Image, unit: &mut Unit, function: u32) -> bool
+    requires { unit.old.at + 1 < 2 ^ 32 }
+    ensures local { result ≡ nat_lt unit.old.depth 256 }
+    ensures unit { unit.new ≡ (if result then calls image.now unit.old function else unit.old) }
+    ensures steps { result ≡ true → unit.new.counts.steps ≡ more unit.old.counts.steps }
+{
+    let holds = unit.depth < 256;
+    if holds {
+        calls(image, unit, function);
+    }
+    holds
+}
+
+// Goes on if the register is below this length, and says whether it is.
+fn run_check(unit: &mut Unit, b: u8, length: u32) -> bool
+    requires { unit.old.at + 1 < 2 ^ 32 }
+    ensures local { result ≡ nat_lt (reg unit.old b) length }
+    ensures unit { unit.new ≡ (if result then goes_on unit.old else unit.old) }
+    ensures steps { result ≡ true → unit.new.counts.steps ≡ more unit.old.counts.steps }
+{
+    let holds = reg(unit, b) < length;
+    if holds {
+        goes_on(unit);
+    }
+    holds
+}
+
+// Runs the instruction at an operation if it touches the unit alone, and says whether it does.
+fn run_at(image: &Image, start: &Start, unit: &mut Unit, operation: Operation) -> bool
+    requires small { IsSmall image.now }
     requires room { unit.old.at + 1 < 2 ^ 32 }
-    requires local { next_at image.now start.now unit.old operation ≡ Local }
-    ensures unit { unit.new ≡ local_at image.now start.now unit.old operation }
-    ensures steps { unit.new.counts.steps ≡ more unit.old.counts.steps }
+    ensures local { result ≡ is_local (next_at image.now start.now unit.old operation) }
+    ensures unit { unit.new ≡ (if result then local_at image.now start.now unit.old operation else unit.old) }
+    ensures steps { result ≡ true → unit.new.counts.steps ≡ more unit.old.counts.steps }
 {
     match operation {
         Operation::Set(a, value) => sets(unit, a, value),
@@ -330,14 +377,11 @@ fn local_at(image: &Image, start: &Start, unit: &mut Unit, operation: Operation)
             let value = unary(op, reg(unit, b));
             sets(unit, a, value);
         }
-        Operation::Binary(op, a, b, c) => {
-            let value = binary(op, reg(unit, b), reg(unit, c)).unwrap_or(0);
-            sets(unit, a, value);
-        }
+        Operation::Binary(op, a, b, c) => return run_binary(unit, op, a, b, c),
         Operation::Jump(to) => goes(unit, to),
         Operation::IfZero(b, to) => goes_if_zero(unit, b, to),
         Operation::IfNot(b, to) => goes_if_not(unit, b, to),
-        Operation::Call(function) => calls(image, unit, function),
+        Operation::Call(function) => return run_call(image, unit, function),
         Operation::Return => returns(unit),
         Operation::ReadSlot(a, i) => read_slot(unit, a, i),
         Operation::WriteSlot(b, i) => write_slot(unit, b, i),
@@ -347,24 +391,28 @@ fn local_at(image: &Image, start: &Start, unit: &mut Unit, operation: Operation)
             let value = look(start.frame.as_slice(), i as usize);
             sets(unit, a, value);
         }
-        Operation::Check(_, _) => goes_on(unit),
+        Operation::Check(b, length) => return run_check(unit, b, length),
         Operation::Load(_, _)
         | Operation::Store(_, _)
         | Operation::Add(_, _)
         | Operation::Print(_)
         | Operation::Spawn(_, _, _)
-        | Operation::Join => {}
+        | Operation::Join => return false,
     }
+    true
 }
 
-/// Runs the unit's local instruction.
-pub(crate) fn run_local(image: &Image, start: &Start, unit: &mut Unit)
+/// Runs the next instruction of a unit that isn't due to draw if it touches the unit alone, and
+/// says whether it does.
+pub(crate) fn run_local(image: &Image, start: &Start, unit: &mut Unit) -> bool
     requires small { IsSmall image.now }
-    requires local { next_of image.now start.now unit.old ≡ Local }
-    ensures unit { unit.new ≡ local_of image.now start.now unit.old }
-    ensures steps { unit.new.counts.steps ≡ more unit.old.counts.steps }
+    requires runs { is_due unit.old.state ≡ false }
+    ensures local { result ≡ is_local (next_of image.now start.now unit.old) }
+    ensures unit { unit.new ≡ (if result then local_of image.now start.now unit.old else unit.old) }
+    ensures steps { result ≡ true → unit.new.counts.steps ≡ more unit.old.counts.steps }
 {
-    if let Some(operation) = operation_at(image, unit.at) {
-        local_at(image, start, unit, operation);
+    match operation_at(image, unit.at) {
+        None => false,
+        Some(operation) => run_at(image, start, unit, operation),
     }
 }

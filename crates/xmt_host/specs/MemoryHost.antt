@@ -1,12 +1,25 @@
 -- What a host in memory tells, and what its calls count.
-use Rattle.std.specs.Prelude.{◌≡◌, ◌+◌, ◌≤◌, Bool, true, false, IsTrue, ◌↔◌, slice_index, slice_set, Result, Err}
+use Rattle.std.specs.Prelude.{◌≡◌, ◌==◌, ◌+◌, ◌≤◌, length, Bool, true, false, IsTrue, ◌↔◌, slice_index, slice_set, Result, Some, Err}
 use Rattle.xmt_base.specs.Counters.{capped}
 use Rattle.xmt_host.specs.declared.host.HostFault.{HostFault}
 use Rattle.xmt_host.specs.declared.host.HostFault.TheVariants.{Failed}
 use Rattle.xmt_base.specs.Counters.{capped}
 use Rattle.xmt_host.specs.declared.memory_host.HostCall.{HostCall}
+use Rattle.xmt_host.specs.FileMaps.{file_map}
 use Rattle.xmt_host.specs.HostCalls.{place_of, IsListed}
+use Rattle.xmt_host.specs.Told.{Told}
 use Rattle.xmt_host.specs.declared.memory_host.MemoryHost.{MemoryHost}
+
+-- what the host tells: it is steady where no call is to fail
+abbrev pub told : MemoryHost → Told
+told host = record {
+  files = Some (file_map host.files);
+  out = Some host.out.items;
+  err = Some host.err.items;
+  faults = host.faults;
+  taken = host.taken;
+  steady = length host.failing.items == 0;
+}
 
 -- a call of this kind is counted, and fails exactly where it is listed, which counts a fault; all else stays
 pub record Counts (call : HostCall) (failed : Bool) (old new : MemoryHost) : Type 0 where

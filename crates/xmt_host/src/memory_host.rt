@@ -142,34 +142,21 @@ fn store(
 }
 
 impl Host for MemoryHost {
-    ghost use Rattle.std.specs.Prelude.{◌≡◌, ◌≤◌, [], ◌++◌, Some, Err, IfOk, OnOk, length};
-    ghost use Rattle.xmt_host.specs.declared.host.HostFault.TheVariants.{Failed};
+    ghost use Rattle.std.specs.Prelude.{◌≡◌, IfOk, length};
     ghost use Rattle.xmt_host.specs.declared.memory_host.HostCall.TheVariants.{Read, Put, Print, Complain};
-    ghost use Rattle.xmt_host.specs.FileMaps.{file_map};
+    ghost use Rattle.xmt_host.specs.Told.{MeetsNoFault, OnlyReads, OnlyPuts, OnlyPrints, OnlyComplains};
     ghost use Rattle.xmt_host.specs.Host.{HasCause, HasFile, Reads, RisesBy, Puts, Appends};
-    ghost use Rattle.xmt_host.specs.MemoryHost.{IsCall};
+    ghost use Rattle.xmt_host.specs.MemoryHost.{IsCall, told};
 
-    ghost files = { λ host. Some (file_map host.files) };
-
-    ghost out = { λ host. Some host.out.items };
-
-    ghost err = { λ host. Some host.err.items };
-
-    ghost faults = { λ host. host.faults };
-
-    ghost taken = { λ host. host.taken };
-
-    ghost steady = { λ host. host.failing.items ≡ [] };
+    ghost told = { told };
 
     fn read_at(&mut self, name: &str, at: u64, buf: &mut [u8]) -> Result<usize, HostFault>
         ensures call { IsCall Read result self.old self.new }
-        ensures bytes { Reads (Some (file_map self.old.files)) name.now at result buf.new }
+        ensures bytes { Reads (told self.old).files name.now at result buf.new }
         ensures taken { RisesBy result self.old.taken self.new.taken }
-        ensures cause { HasCause self.old.faults self.new.faults result }
-        ensures no_fault { self.old.failing.items ≡ [] → HasFile (Some (file_map self.old.files)) name.now → self.new.faults ≡ self.old.faults }
-        ensures files { self.new.files ≡ self.old.files }
-        ensures out { self.new.out ≡ self.old.out }
-        ensures err { self.new.err ≡ self.old.err }
+        ensures cause { HasCause (told self.old) (told self.new) result }
+        ensures no_fault { MeetsNoFault (told self.old) (told self.new) (λ files. HasFile files name.now) }
+        ensures only { OnlyReads (told self.old) (told self.new) }
     {
         if self.fails(HostCall::Read) {
             return Err(HostFault::Failed);
@@ -188,12 +175,9 @@ impl Host for MemoryHost {
 
     fn put(&mut self, name: &str, bytes: &[u8]) -> Result<(), HostFault>
         ensures call { IsCall Put result self.old self.new }
-        ensures bytes { Puts name.now bytes.now result (Some (file_map self.old.files)) (Some (file_map self.new.files)) }
-        ensures taken { self.new.taken ≡ self.old.taken }
-        ensures cause { HasCause self.old.faults self.new.faults result }
-        ensures no_fault { self.old.failing.items ≡ [] → self.new.faults ≡ self.old.faults }
-        ensures out { self.new.out ≡ self.old.out }
-        ensures err { self.new.err ≡ self.old.err }
+        ensures bytes { Puts name.now bytes.now result (told self.old).files (told self.new).files }
+        ensures cause { HasCause (told self.old) (told self.new) result }
+        ensures only { OnlyPuts (told self.old) (told self.new) }
     {
         if self.fails(HostCall::Put) {
             return Err(HostFault::Failed);
@@ -206,13 +190,10 @@ impl Host for MemoryHost {
 
     fn print(&mut self, piece: &[u8]) -> Result<usize, HostFault>
         ensures call { IsCall Print result self.old self.new }
-        ensures bytes { Appends piece.now result (Some self.old.out.items) (Some self.new.out.items) }
+        ensures bytes { Appends piece.now result (told self.old).out (told self.new).out }
         ensures whole { IfOk result (λ n. n ≡ length piece.now) }
-        ensures taken { self.new.taken ≡ self.old.taken }
-        ensures cause { HasCause self.old.faults self.new.faults result }
-        ensures no_fault { self.old.failing.items ≡ [] → self.new.faults ≡ self.old.faults }
-        ensures files { self.new.files ≡ self.old.files }
-        ensures err { self.new.err ≡ self.old.err }
+        ensures cause { HasCause (told self.old) (told self.new) result }
+        ensures only { OnlyPrints (told self.old) (told self.new) }
     {
         if self.fails(HostCall::Print) {
             return Err(HostFault::Failed);
@@ -223,13 +204,10 @@ impl Host for MemoryHost {
 
     fn complain(&mut self, piece: &[u8]) -> Result<usize, HostFault>
         ensures call { IsCall Complain result self.old self.new }
-        ensures bytes { Appends piece.now result (Some self.old.err.items) (Some self.new.err.items) }
+        ensures bytes { Appends piece.now result (told self.old).err (told self.new).err }
         ensures whole { IfOk result (λ n. n ≡ length piece.now) }
-        ensures taken { self.new.taken ≡ self.old.taken }
-        ensures cause { HasCause self.old.faults self.new.faults result }
-        ensures no_fault { self.old.failing.items ≡ [] → self.new.faults ≡ self.old.faults }
-        ensures files { self.new.files ≡ self.old.files }
-        ensures out { self.new.out ≡ self.old.out }
+        ensures cause { HasCause (told self.old) (told self.new) result }
+        ensures only { OnlyComplains (told self.old) (told self.new) }
     {
         if self.fails(HostCall::Complain) {
             return Err(HostFault::Failed);

@@ -64,19 +64,9 @@ fn complain_all<R: Eprint>(rt: &R, piece: &[u8]) -> io::Result<usize>
 }
 
 impl<R: Files + Print + Eprint> Host for RealHost<'_, R> {
-    ghost use Rattle.std.specs.Prelude.{None};
+    ghost use Rattle.std.specs.Prelude.{None, false};
 
-    ghost files = { λ _. None };
-
-    ghost out = { λ _. None };
-
-    ghost err = { λ _. None };
-
-    ghost faults = { λ host. host.faults };
-
-    ghost taken = { λ host. host.taken };
-
-    ghost steady = { λ _. ⊥ };
+    ghost told = { λ host. record { files = None; out = None; err = None; faults = host.faults; taken = host.taken; steady = false } };
 
     fn read_at(&mut self, name: &str, at: u64, buf: &mut [u8]) -> Result<usize, HostFault> {
         match read_part(self.rt, name, at, buf) {

@@ -1,5 +1,6 @@
 //! Reading a whole file in pieces.
-ghost use Rattle.std.specs.Prelude.{◌≡◌, ◌+◌, ◌<◌, ◌≤◌, length, vec_len, IfOk, Err};
+ghost use Rattle.std.specs.Prelude.{◌≡◌, ◌+◌, ◌≤◌, vec_len, IfOk, Err};
+ghost use Rattle.xmt_host.specs.Told.{MeetsNoFault, OnlyReads};
 ghost use Rattle.xmt_host.specs.Host.{Rose, RoseBy, HasFile, IsWholeFile, IsLonger};
 
 use crate::{Host, HostFault};
@@ -40,21 +41,17 @@ pub fn take_file<H: Host>(
     name: &str,
     limit: u64,
 ) -> Result<Vec<u8>, TakeFault>
-    ensures whole { IfOk result (λ bytes. IsWholeFile (H.files host.old) name.now bytes.items) }
+    ensures whole { IfOk result (λ bytes. IsWholeFile (H.told host.old).files name.now bytes.items) }
     ensures fits { IfOk result (λ bytes. vec_len bytes ≤ limit) }
 
     // When each refusal comes.
-    ensures fault { result ≡ Err TakeFault.Fault → Rose (H.faults host.old) (H.faults host.new) }
-    ensures too_long { result ≡ Err TakeFault.TooLong → RoseBy (limit + 1) (H.taken host.old) (H.taken host.new) }
-    ensures longer { result ≡ Err TakeFault.TooLong → IsLonger (H.files host.old) name.now limit }
-    ensures no_fault { H.steady host.old → HasFile (H.files host.old) name.now → H.faults host.new ≡ H.faults host.old }
+    ensures fault { result ≡ Err TakeFault.Fault → Rose (H.told host.old).faults (H.told host.new).faults }
+    ensures too_long { result ≡ Err TakeFault.TooLong → RoseBy (limit + 1) (H.told host.old).taken (H.told host.new).taken }
+    ensures longer { result ≡ Err TakeFault.TooLong → IsLonger (H.told host.old).files name.now limit }
+    ensures no_fault { MeetsNoFault (H.told host.old) (H.told host.new) (λ files. HasFile files name.now) }
 
     // What stays.
-    ensures later { H.faults host.old ≤ H.faults host.new }
-    ensures steady { H.steady host.old → H.steady host.new }
-    ensures files { H.files host.new ≡ H.files host.old }
-    ensures out { H.out host.new ≡ H.out host.old }
-    ensures err { H.err host.new ≡ H.err host.old }
+    ensures only { OnlyReads (H.told host.old) (H.told host.new) }
 {
     let mut bytes = Vec::new(alloc);
     let mut piece = [0; PIECE];

@@ -2,7 +2,8 @@
 use Rattle.std.proofs.Common.{◌≡◌, ℕ, List, Option, Err, sym, subst}
 use Rattle.std.specs.Prelude.{IsSomeAnd}
 use Rattle.xmt_base.specs.declared.values.Place.{Place}
-use Rattle.xmt_host.specs.Host.{FileMap, IsWholeFile}
+use Rattle.xmt_host.specs.Told.{FileMap}
+use Rattle.xmt_host.specs.Host.{IsWholeFile}
 use Rattle.front_end.specs.declared.refusal.SourceKind.{SourceKind}
 use Rattle.front_end.specs.declared.refusal.SourceRefusal.{SourceRefusal}
 use Rattle.front_end.specs.declared.refusal.SourceRefusal.TheVariants as source

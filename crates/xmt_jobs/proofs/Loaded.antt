@@ -1,6 +1,6 @@
 -- From the run of a loaded image and its dump to what a job has done.
 use Rattle.std.proofs.Common.{◌≡◌, ◌∙◌, sym, subst, ℕ, List, Option, Some, None, inl, inr}
-use Rattle.xmt_host.specs.Host.{FileMap}
+use Rattle.xmt_host.specs.Told.{FileMap}
 use Rattle.xmt_isa.specs.declared.image.Image.{Image}
 use Rattle.xmt_isa.specs.declared.run.Choice.{Choice}
 use Rattle.xmt_isa.specs.declared.run.Choice.TheVariants as choice
@@ -13,7 +13,8 @@ use Rattle.xmtsim_run.specs.Runs.{picked_run}
 use Rattle.xmt_cli.specs.Given.{Text}
 use Rattle.xmt_jobs.specs.declared.outcome.Outcome.{Outcome}
 use Rattle.xmt_jobs.specs.declared.outcome.Outcome.TheVariants.{Done, SourceRefused, ImageRefused, MapRefused, Trap, Spent, Fault, NoMemory}
-use Rattle.xmt_jobs.specs.Told.{Told, IsSilent}
+use Rattle.xmt_host.specs.Told.{Told}
+use Rattle.xmt_jobs.specs.Written.{IsSilent}
 use Rattle.xmt_jobs.specs.Files.{MayPut, MayPutPart, PutsDump}
 use Rattle.xmt_jobs.specs.Faults.{HoldsImage, HoldsNoMap, OpensAs}
 use Rattle.xmt_jobs.specs.Runs.{RunsTo, dump_of}

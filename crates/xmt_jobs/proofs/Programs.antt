@@ -1,7 +1,7 @@
 -- From the run of a loaded image to what the source that it implements has done.
 use Rattle.std.proofs.Common.{◌≡◌, ◌≢◌, ◌∙◌, refl, sym, ap, subst, ℕ, List, length, Option, Some, None, inl, inr}
 use Rattle.xmt_base.specs.declared.values.Symbol.{Symbol}
-use Rattle.xmt_host.specs.Host.{FileMap}
+use Rattle.xmt_host.specs.Told.{FileMap}
 use Rattle.source_meaning.specs.declared.tree.Program.{Program}
 use Rattle.source_meaning.specs.Layout.{all_words, opening_words, symbols_from}
 use Rattle.xmt_isa.specs.declared.image.Image.{Image}
@@ -19,7 +19,7 @@ use Rattle.xmt_cli.specs.Given.{Text}
 use Rattle.xmt_cli.specs.JobOf.{AreInRange}
 use Rattle.xmt_jobs.specs.declared.outcome.Outcome.{Outcome}
 use Rattle.xmt_jobs.specs.declared.outcome.Outcome.TheVariants.{Done, SourceRefused, ImageRefused, MapRefused, Trap, Spent, Fault, NoMemory}
-use Rattle.xmt_jobs.specs.Told.{Told}
+use Rattle.xmt_host.specs.Told.{Told}
 use Rattle.xmt_jobs.specs.Files.{MayPut, MayPutPart}
 use Rattle.xmt_jobs.specs.Faults.{HoldsNoMap, OpensAs}
 use Rattle.xmt_jobs.specs.Runs.{RunsTo, dump_of}

@@ -3,7 +3,7 @@ use Rattle.std.proofs.Common.{◌≡◌, ℕ, List, Option, Some, None, Result, 
 use Rattle.std.specs.Prelude.{IsSomeAnd}
 use Rattle.xmt_host.specs.declared.host.HostFault.{HostFault}
 use Rattle.xmt_host.specs.Host as host
-use Rattle.xmt_host.specs.Host.{FileMap}
+use Rattle.xmt_host.specs.Told.{FileMap}
 use Rattle.xmt_cli.specs.Given.{Text}
 use Rattle.xmt_jobs.specs.Files.{Puts, PutsPart, HoldsPart, MayPut, MayPutPart}
 

@@ -2,7 +2,8 @@
 use Rattle.std.specs.Prelude.{◌≡◌, ◌⊎◌, ⊤, List}
 use Rattle.std.specs.declared.option.Option.{Option}
 use Rattle.std.specs.declared.option.Option.TheVariants.{Some, None}
-use Rattle.xmt_host.specs.Host.{FileMap, HasFile}
+use Rattle.xmt_host.specs.Told.{FileMap}
+use Rattle.xmt_host.specs.Host.{HasFile}
 use Rattle.source_meaning.specs.declared.tree.Program.{Program}
 use Rattle.source_meaning.specs.Layout.{opening_words, symbols_from}
 use Rattle.xmt_isa.specs.declared.image.Image.{Image}
@@ -13,7 +14,8 @@ use Rattle.xmt_cli.specs.JobOf.{Task, compile, simulate, run}
 use Rattle.xmt_jobs.specs.declared.outcome.BytesFault.{BytesFault}
 use Rattle.xmt_jobs.specs.declared.outcome.Outcome.{Outcome}
 use Rattle.xmt_jobs.specs.declared.outcome.Outcome.TheVariants.{Done, SourceRefused, ImageRefused, MapRefused, Trap, Spent, Fault, NoMemory}
-use Rattle.xmt_jobs.specs.Told.{Told, IsSilent}
+use Rattle.xmt_host.specs.Told.{Told}
+use Rattle.xmt_jobs.specs.Written.{IsSilent}
 use Rattle.xmt_jobs.specs.Files.{MayPut, MayPutPart}
 use Rattle.xmt_jobs.specs.Faults.{HoldsImage, HoldsNoImage, HoldsNoMap}
 use Rattle.xmt_jobs.specs.Runs.{dump_of}

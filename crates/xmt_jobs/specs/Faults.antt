@@ -3,7 +3,8 @@ use Rattle.std.specs.Prelude.{◌≡◌, ⊤, ◌⊎◌, ℕ, ◌<◌, ◌≤◌
 use Rattle.std.specs.declared.option.Option.{Option}
 use Rattle.std.specs.declared.option.Option.TheVariants.{Some, None}
 use Rattle.xmt_base.specs.declared.values.Symbol.{Symbol}
-use Rattle.xmt_host.specs.Host.{FileMap, IsWholeFile, IsLonger}
+use Rattle.xmt_host.specs.Told.{FileMap}
+use Rattle.xmt_host.specs.Host.{IsWholeFile, IsLonger}
 use Rattle.xmt_isa.specs.declared.image.Image.{Image}
 use Rattle.xmt_isa.specs.Valid.{IsValid}
 use Rattle.image_loader.specs.declared.refusal.LoadKind.{LoadKind}

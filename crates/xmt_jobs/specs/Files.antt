@@ -3,7 +3,8 @@ use Rattle.std.specs.Prelude.{◌≡◌, ◌≢◌, ◌⊎◌, ℕ, List, IsSome
 use Rattle.std.specs.declared.option.Option.{Option}
 use Rattle.std.specs.declared.option.Option.TheVariants.{Some, None}
 use Rattle.std.specs.Option.{ForSome}
-use Rattle.xmt_host.specs.Host.{FileMap, IsPrefix, Holds}
+use Rattle.xmt_host.specs.Told.{FileMap}
+use Rattle.xmt_host.specs.Host.{IsPrefix, Holds}
 use Rattle.xmt_cli.specs.Given.{Text}
 use Rattle.xmt_jobs.specs.declared.outcome.Outcome.{Outcome}
 use Rattle.xmt_jobs.specs.declared.outcome.Outcome.TheVariants as outcome

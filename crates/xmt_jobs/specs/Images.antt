@@ -1,7 +1,7 @@
 -- What a job has done with the image in a file.
 use Rattle.std.specs.Prelude.{◌≡◌, ◌⊎◌, ⊤, ℕ, List}
 use Rattle.std.specs.declared.option.Option.{Option}
-use Rattle.xmt_host.specs.Host.{FileMap}
+use Rattle.xmt_host.specs.Told.{FileMap}
 use Rattle.xmt_base.specs.declared.values.Symbol.{Symbol}
 use Rattle.xmt_isa.specs.declared.image.Image.{Image}
 use Rattle.xmt_isa.specs.declared.run.Choice.{Choice}
@@ -13,7 +13,8 @@ use Rattle.xmtsim_run.specs.Runs.{picked_run}
 use Rattle.xmt_cli.specs.Given.{Text}
 use Rattle.xmt_jobs.specs.declared.outcome.Outcome.{Outcome}
 use Rattle.xmt_jobs.specs.declared.outcome.Outcome.TheVariants.{Done, ImageRefused, MapRefused, Trap, Spent, Fault, NoMemory}
-use Rattle.xmt_jobs.specs.Told.{Told, IsSilent}
+use Rattle.xmt_host.specs.Told.{Told}
+use Rattle.xmt_jobs.specs.Written.{IsSilent}
 use Rattle.xmt_jobs.specs.Files.{MayPut, MayPutPart}
 use Rattle.xmt_jobs.specs.Faults.{HoldsImage, HoldsNoImage, HoldsNoMap, OpensAs}
 use Rattle.xmt_jobs.specs.Runs.{RunsTo, dump_of}

@@ -1,4 +1,4 @@
-pub mod Told
+pub mod Written
 pub mod Files
 pub mod Faults
 pub mod Runs

@@ -10,7 +10,7 @@ use Rattle.xmt_isa.specs.Machine.{Machine}
 use Rattle.machine_core.specs.Runs.{EndsAs, data_words}
 use Rattle.memory_map.specs.DumpText.{dump_text}
 use Rattle.xmtsim_run.specs.Runs.{picked_run}
-use Rattle.xmt_jobs.specs.Told.{Told}
+use Rattle.xmt_host.specs.Told.{Told}
 
 -- From this memory the run that the seed picks has come, by a legal schedule in which no unit did more steps than the budget, to such an end with
 -- this machine; all that it printed was written. Where it is done, the master has halted.

@@ -3,7 +3,8 @@ use Rattle.std.specs.Prelude.{◌≡◌, ◌⊎◌, ⊤, ℕ, List, IsSomeAnd}
 use Rattle.std.specs.declared.option.Option.{Option}
 use Rattle.std.specs.Option.{ForSome}
 use Rattle.xmt_base.specs.declared.values.Place.{Place}
-use Rattle.xmt_host.specs.Host.{FileMap, IsWholeFile}
+use Rattle.xmt_host.specs.Told.{FileMap}
+use Rattle.xmt_host.specs.Host.{IsWholeFile}
 use Rattle.source_meaning.specs.declared.tree.Program.{Program}
 use Rattle.source_meaning.specs.Layout.{opening_words, symbols_from}
 use Rattle.front_end.specs.declared.refusal.SourceKind.{SourceKind}
@@ -24,7 +25,8 @@ use Rattle.xmt_compile.specs.Ended.{HasDone, HasPrinted}
 use Rattle.xmt_cli.specs.Given.{Text}
 use Rattle.xmt_jobs.specs.declared.outcome.Outcome.{Outcome}
 use Rattle.xmt_jobs.specs.declared.outcome.Outcome.TheVariants.{Done, SourceRefused, Fault, NoMemory}
-use Rattle.xmt_jobs.specs.Told.{Told, WritesPart}
+use Rattle.xmt_host.specs.Told.{Told}
+use Rattle.xmt_jobs.specs.Written.{WritesPart}
 use Rattle.xmt_jobs.specs.Files.{Puts, PutsPart}
 use Rattle.xmt_jobs.specs.Faults.{OpensAs}
 use Rattle.xmt_jobs.specs.Runs.{RunsTo}

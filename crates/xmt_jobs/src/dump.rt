@@ -1,6 +1,7 @@
 //! Putting the dump of a run.
-ghost use Rattle.std.specs.Prelude.{◌≡◌, ◌≤◌, OnOk, OnErr, length, string_bytes};
+ghost use Rattle.std.specs.Prelude.{OnOk, OnErr, length, string_bytes};
 ghost use Rattle.std.specs.Option.{option_map};
+ghost use Rattle.xmt_host.specs.Told.{OnlyPuts};
 ghost use Rattle.xmt_host.specs.Host.{HasCause};
 ghost use Rattle.xmt_isa.specs.Symbols.{AreSymbols};
 ghost use Rattle.memory_map.specs.DumpText.{dump_text};
@@ -20,13 +21,10 @@ pub(crate) fn put_dump<H: Host>(
     host: &mut H,
 ) -> Result<(), HostFault>
     requires symbols { AreSymbols symbols.now (length memory.now.words) }
-    ensures ok { OnOk result (MayPut (option_map string_bytes dump.now) (dump_text symbols.now memory.now.words) (H.files host.old) (H.files host.new)) }
-    ensures part { OnErr result (MayPutPart (option_map string_bytes dump.now) (dump_text symbols.now memory.now.words) (H.files host.old) (H.files host.new)) }
-    ensures cause { HasCause (H.faults host.old) (H.faults host.new) result }
-    ensures no_fault { H.steady host.old → H.faults host.new ≡ H.faults host.old }
-    ensures steady { H.steady host.old → H.steady host.new }
-    ensures out { H.out host.new ≡ H.out host.old }
-    ensures err { H.err host.new ≡ H.err host.old }
+    ensures ok { OnOk result (MayPut (option_map string_bytes dump.now) (dump_text symbols.now memory.now.words) (H.told host.old).files (H.told host.new).files) }
+    ensures part { OnErr result (MayPutPart (option_map string_bytes dump.now) (dump_text symbols.now memory.now.words) (H.told host.old).files (H.told host.new).files) }
+    ensures cause { HasCause (H.told host.old) (H.told host.new) result }
+    ensures only { OnlyPuts (H.told host.old) (H.told host.new) }
 {
     match dump {
         None => Ok(()),

@@ -1,10 +1,10 @@
 //! Doing a job.
-ghost use Rattle.std.specs.Prelude.{◌≡◌, ◌≤◌, string_bytes};
+ghost use Rattle.std.specs.Prelude.{◌≡◌, string_bytes};
 ghost use Rattle.std.specs.Option.{option_map};
+ghost use Rattle.xmt_host.specs.Told.{MeetsNoFault, OnlyPuts, OnlyWorks};
 ghost use Rattle.xmt_host.specs.Host.{Rose, HasFile};
 ghost use Rattle.xmt_isa.specs.Valid.{IsValid};
 ghost use Rattle.xmt_cli.specs.JobOf.{AreInRange, HasRange, seen_job};
-ghost use Rattle.xmt_jobs.specs.Told.{told};
 ghost use Rattle.xmt_jobs.specs.Sources.{PutsImage};
 ghost use Rattle.xmt_jobs.specs.Ended.{HasEnded, HasEndedCompiling, HasEndedSimulating, HasEndedRunning, HasMap, HasFiles};
 
@@ -21,13 +21,9 @@ use xmt_isa::Image;
 // Puts the bytes of an image into a file.
 fn put_image<H: Host>(alloc: Global, image: &Image, out: &str, host: &mut H) -> Outcome
     requires valid { IsValid image.now }
-    ensures put { PutsImage image.now out.now (H.files host.old) (H.files host.new) result }
-    ensures fault { result ≡ Outcome.Fault → Rose (H.faults host.old) (H.faults host.new) }
-    ensures no_fault { H.steady host.old → H.faults host.new ≡ H.faults host.old }
-    ensures later { H.faults host.old ≤ H.faults host.new }
-    ensures steady { H.steady host.old → H.steady host.new }
-    ensures out { H.out host.new ≡ H.out host.old }
-    ensures err { H.err host.new ≡ H.err host.old }
+    ensures put { PutsImage image.now out.now (H.told host.old).files (H.told host.new).files result }
+    ensures fault { result ≡ Outcome.Fault → Rose (H.told host.old).faults (H.told host.new).faults }
+    ensures only { OnlyPuts (H.told host.old) (H.told host.new) }
 {
     match encode(alloc, image) {
         Err(_) => Outcome::NoMemory,
@@ -41,12 +37,10 @@ fn put_image<H: Host>(alloc: Global, image: &Image, out: &str, host: &mut H) -> 
 
 // Compiles the source in a file, and puts the image into another.
 fn compile_into<H: Host>(alloc: Global, file: &str, out: &str, host: &mut H) -> Outcome
-    ensures ended { HasEndedCompiling file.now out.now (told (H.files host.old) (H.out host.old) (H.err host.old) (H.faults host.old)) (told (H.files host.new) (H.out host.new) (H.err host.new) (H.faults host.new)) result }
-    ensures fault { result ≡ Outcome.Fault → Rose (H.faults host.old) (H.faults host.new) }
-    ensures no_fault { H.steady host.old → HasFile (H.files host.old) file.now → H.faults host.new ≡ H.faults host.old }
-    ensures later { H.faults host.old ≤ H.faults host.new }
-    ensures steady { H.steady host.old → H.steady host.new }
-    ensures err { H.err host.new ≡ H.err host.old }
+    ensures ended { HasEndedCompiling file.now out.now (H.told host.old) (H.told host.new) result }
+    ensures fault { result ≡ Outcome.Fault → Rose (H.told host.old).faults (H.told host.new).faults }
+    ensures no_fault { MeetsNoFault (H.told host.old) (H.told host.new) (λ files. HasFile files file.now) }
+    ensures only { OnlyWorks (H.told host.old) (H.told host.new) }
 {
     match compile_file(alloc, file, host) {
         Err(outcome) => outcome,
@@ -64,12 +58,10 @@ fn simulate_file<H: Host>(
     host: &mut H,
 ) -> Outcome
     requires range { AreInRange options.now }
-    ensures ended { HasEndedSimulating file.now options.now (option_map string_bytes map.now) (option_map string_bytes dump.now) (told (H.files host.old) (H.out host.old) (H.err host.old) (H.faults host.old)) (told (H.files host.new) (H.out host.new) (H.err host.new) (H.faults host.new)) result }
-    ensures fault { result ≡ Outcome.Fault → Rose (H.faults host.old) (H.faults host.new) }
-    ensures no_fault { H.steady host.old → HasFile (H.files host.old) file.now → HasMap (H.files host.old) (option_map string_bytes map.now) → H.faults host.new ≡ H.faults host.old }
-    ensures later { H.faults host.old ≤ H.faults host.new }
-    ensures steady { H.steady host.old → H.steady host.new }
-    ensures err { H.err host.new ≡ H.err host.old }
+    ensures ended { HasEndedSimulating file.now options.now (option_map string_bytes map.now) (option_map string_bytes dump.now) (H.told host.old) (H.told host.new) result }
+    ensures fault { result ≡ Outcome.Fault → Rose (H.told host.old).faults (H.told host.new).faults }
+    ensures no_fault { MeetsNoFault (H.told host.old) (H.told host.new) (λ files. HasFile files file.now × HasMap files (option_map string_bytes map.now)) }
+    ensures only { OnlyWorks (H.told host.old) (H.told host.new) }
 {
     match load_file(alloc, file, host) {
         Err(outcome) => outcome,
@@ -87,12 +79,10 @@ fn run_file<H: Host>(
     host: &mut H,
 ) -> Outcome
     requires range { AreInRange options.now }
-    ensures ended { HasEndedRunning file.now options.now (option_map string_bytes map.now) (option_map string_bytes dump.now) (told (H.files host.old) (H.out host.old) (H.err host.old) (H.faults host.old)) (told (H.files host.new) (H.out host.new) (H.err host.new) (H.faults host.new)) result }
-    ensures fault { result ≡ Outcome.Fault → Rose (H.faults host.old) (H.faults host.new) }
-    ensures no_fault { H.steady host.old → HasFile (H.files host.old) file.now → HasMap (H.files host.old) (option_map string_bytes map.now) → H.faults host.new ≡ H.faults host.old }
-    ensures later { H.faults host.old ≤ H.faults host.new }
-    ensures steady { H.steady host.old → H.steady host.new }
-    ensures err { H.err host.new ≡ H.err host.old }
+    ensures ended { HasEndedRunning file.now options.now (option_map string_bytes map.now) (option_map string_bytes dump.now) (H.told host.old) (H.told host.new) result }
+    ensures fault { result ≡ Outcome.Fault → Rose (H.told host.old).faults (H.told host.new).faults }
+    ensures no_fault { MeetsNoFault (H.told host.old) (H.told host.new) (λ files. HasFile files file.now × HasMap files (option_map string_bytes map.now)) }
+    ensures only { OnlyWorks (H.told host.old) (H.told host.new) }
 {
     match compile_file(alloc, file, host) {
         Err(outcome) => outcome,
@@ -109,12 +99,10 @@ fn run_file<H: Host>(
 /// files are read in order: the source or the image, then the map.
 pub fn do_job<H: Host>(alloc: Global, job: &Job, host: &mut H) -> Outcome
     requires range { HasRange job.now }
-    ensures ended { HasEnded (seen_job job.now) (told (H.files host.old) (H.out host.old) (H.err host.old) (H.faults host.old)) (told (H.files host.new) (H.out host.new) (H.err host.new) (H.faults host.new)) result }
-    ensures fault { result ≡ Outcome.Fault → Rose (H.faults host.old) (H.faults host.new) }
-    ensures no_fault { H.steady host.old → HasFiles (H.files host.old) (seen_job job.now) → H.faults host.new ≡ H.faults host.old }
-    ensures later { H.faults host.old ≤ H.faults host.new }
-    ensures steady { H.steady host.old → H.steady host.new }
-    ensures err { H.err host.new ≡ H.err host.old }
+    ensures ended { HasEnded (seen_job job.now) (H.told host.old) (H.told host.new) result }
+    ensures fault { result ≡ Outcome.Fault → Rose (H.told host.old).faults (H.told host.new).faults }
+    ensures no_fault { MeetsNoFault (H.told host.old) (H.told host.new) (λ files. HasFiles files (seen_job job.now)) }
+    ensures only { OnlyWorks (H.told host.old) (H.told host.new) }
 {
     match job {
         Job::Compile { file, out } => compile_into(alloc, file.as_str(), out.as_str(), host),

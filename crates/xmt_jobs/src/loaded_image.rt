@@ -1,10 +1,10 @@
 //! Running a loaded image.
-ghost use Rattle.std.specs.Prelude.{◌≡◌, ◌≤◌, IfOk, IfErr, Err, length, string_bytes};
+ghost use Rattle.std.specs.Prelude.{◌≡◌, IfOk, IfErr, Err, length, string_bytes};
 ghost use Rattle.std.specs.Option.{option_map};
+ghost use Rattle.xmt_host.specs.Told.{MeetsNoFault, OnlyPuts, OnlyReads, OnlyWorks};
 ghost use Rattle.xmt_host.specs.Host.{Rose, HasFile};
 ghost use Rattle.xmt_cli.specs.JobOf.{AreInRange};
 ghost use Rattle.memory_map.specs.DumpText.{dump_text};
-ghost use Rattle.xmt_jobs.specs.Told.{told};
 ghost use Rattle.xmt_jobs.specs.Files.{PutsDump};
 ghost use Rattle.xmt_jobs.specs.Faults.{HoldsImage};
 ghost use Rattle.xmt_jobs.specs.Images.{LoadsNot, HasRunLoaded};
@@ -23,15 +23,11 @@ use xmtsim_run::simulate;
 
 /// The image in a file, or how the job ends.
 pub(crate) fn load_file<H: Host>(alloc: Global, file: &str, host: &mut H) -> Result<Loaded, Outcome>
-    ensures ok { IfOk result (HoldsImage (H.files host.old) file.now) }
-    ensures not { IfErr result (LoadsNot (H.files host.old) file.now) }
-    ensures fault { result ≡ Err Outcome.Fault → Rose (H.faults host.old) (H.faults host.new) }
-    ensures no_fault { H.steady host.old → HasFile (H.files host.old) file.now → H.faults host.new ≡ H.faults host.old }
-    ensures later { H.faults host.old ≤ H.faults host.new }
-    ensures steady { H.steady host.old → H.steady host.new }
-    ensures files { H.files host.new ≡ H.files host.old }
-    ensures out { H.out host.new ≡ H.out host.old }
-    ensures err { H.err host.new ≡ H.err host.old }
+    ensures ok { IfOk result (HoldsImage (H.told host.old).files file.now) }
+    ensures not { IfErr result (LoadsNot (H.told host.old).files file.now) }
+    ensures fault { result ≡ Err Outcome.Fault → Rose (H.told host.old).faults (H.told host.new).faults }
+    ensures no_fault { MeetsNoFault (H.told host.old) (H.told host.new) (λ files. HasFile files file.now) }
+    ensures only { OnlyReads (H.told host.old) (H.told host.new) }
 {
     match take_file(alloc, host, file, BYTE_LIMIT) {
         Err(TakeFault::Fault) => Err(Outcome::Fault),
@@ -65,13 +61,9 @@ fn dump_words<H: Host>(
     host: &mut H,
 ) -> Outcome
     requires size { length memory.now.words ≡ length image.now.words }
-    ensures put { PutsDump (option_map string_bytes dump.now) (dump_text image.now.symbols memory.now.words) (H.files host.old) (H.files host.new) result }
-    ensures fault { result ≡ Outcome.Fault → Rose (H.faults host.old) (H.faults host.new) }
-    ensures no_fault { H.steady host.old → H.faults host.new ≡ H.faults host.old }
-    ensures later { H.faults host.old ≤ H.faults host.new }
-    ensures steady { H.steady host.old → H.steady host.new }
-    ensures out { H.out host.new ≡ H.out host.old }
-    ensures err { H.err host.new ≡ H.err host.old }
+    ensures put { PutsDump (option_map string_bytes dump.now) (dump_text image.now.symbols memory.now.words) (H.told host.old).files (H.told host.new).files result }
+    ensures fault { result ≡ Outcome.Fault → Rose (H.told host.old).faults (H.told host.new).faults }
+    ensures only { OnlyPuts (H.told host.old) (H.told host.new) }
 {
     match put_dump(alloc, image.image().symbols.as_slice(), memory, dump, host) {
         Ok(()) => Outcome::Done,
@@ -91,12 +83,10 @@ pub(crate) fn run_loaded<H: Host>(
     host: &mut H,
 ) -> Outcome
     requires range { AreInRange options.now }
-    ensures ended { HasRunLoaded image.now options.now (option_map string_bytes map.now) (option_map string_bytes dump.now) (told (H.files host.old) (H.out host.old) (H.err host.old) (H.faults host.old)) (told (H.files host.new) (H.out host.new) (H.err host.new) (H.faults host.new)) result }
-    ensures fault { result ≡ Outcome.Fault → Rose (H.faults host.old) (H.faults host.new) }
-    ensures no_fault { H.steady host.old → HasMap (H.files host.old) (option_map string_bytes map.now) → H.faults host.new ≡ H.faults host.old }
-    ensures later { H.faults host.old ≤ H.faults host.new }
-    ensures steady { H.steady host.old → H.steady host.new }
-    ensures err { H.err host.new ≡ H.err host.old }
+    ensures ended { HasRunLoaded image.now options.now (option_map string_bytes map.now) (option_map string_bytes dump.now) (H.told host.old) (H.told host.new) result }
+    ensures fault { result ≡ Outcome.Fault → Rose (H.told host.old).faults (H.told host.new).faults }
+    ensures no_fault { MeetsNoFault (H.told host.old) (H.told host.new) (λ files. HasMap files (option_map string_bytes map.now)) }
+    ensures only { OnlyWorks (H.told host.old) (H.told host.new) }
 {
     match opening_memory(alloc, image, map, host) {
         Err(outcome) => outcome,

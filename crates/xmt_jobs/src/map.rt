@@ -1,6 +1,7 @@
 //! The words that a run begins with.
-ghost use Rattle.std.specs.Prelude.{◌≡◌, ◌≤◌, Some, Err, IfOk, IfErr, length, string_bytes};
+ghost use Rattle.std.specs.Prelude.{◌≡◌, Some, Err, IfOk, IfErr, length, string_bytes};
 ghost use Rattle.std.specs.Option.{option_map};
+ghost use Rattle.xmt_host.specs.Told.{MeetsNoFault, OnlyReads};
 ghost use Rattle.xmt_host.specs.Host.{Rose, HasFile};
 ghost use Rattle.xmt_jobs.specs.Faults.{OpensAs, OpensNot, end_of_map};
 ghost use Rattle.xmt_jobs.specs.Ended.{HasMap};
@@ -45,16 +46,12 @@ fn mapped<H: Host>(
     name: &str,
     host: &mut H,
 ) -> Result<Memory, Outcome>
-    ensures ok { IfOk result (λ memory. OpensAs (H.files host.old) (Some name.now) image.now.symbols image.now.words memory.words) }
+    ensures ok { IfOk result (λ memory. OpensAs (H.told host.old).files (Some name.now) image.now.symbols image.now.words memory.words) }
     ensures size { IfOk result (λ memory. length memory.words ≡ length image.now.words) }
-    ensures not { IfErr result (OpensNot (H.files host.old) (Some name.now) image.now.symbols image.now.words) }
-    ensures fault { result ≡ Err Outcome.Fault → Rose (H.faults host.old) (H.faults host.new) }
-    ensures no_fault { H.steady host.old → HasFile (H.files host.old) name.now → H.faults host.new ≡ H.faults host.old }
-    ensures later { H.faults host.old ≤ H.faults host.new }
-    ensures steady { H.steady host.old → H.steady host.new }
-    ensures files { H.files host.new ≡ H.files host.old }
-    ensures out { H.out host.new ≡ H.out host.old }
-    ensures err { H.err host.new ≡ H.err host.old }
+    ensures not { IfErr result (OpensNot (H.told host.old).files (Some name.now) image.now.symbols image.now.words) }
+    ensures fault { result ≡ Err Outcome.Fault → Rose (H.told host.old).faults (H.told host.new).faults }
+    ensures no_fault { MeetsNoFault (H.told host.old) (H.told host.new) (λ files. HasFile files name.now) }
+    ensures only { OnlyReads (H.told host.old) (H.told host.new) }
 {
     match take_file(alloc, host, name, BYTE_LIMIT) {
         Err(TakeFault::Fault) => Err(Outcome::Fault),
@@ -78,16 +75,12 @@ pub(crate) fn opening_memory<H: Host>(
     map: &Option<String>,
     host: &mut H,
 ) -> Result<Memory, Outcome>
-    ensures ok { IfOk result (λ memory. OpensAs (H.files host.old) (option_map string_bytes map.now) image.now.symbols image.now.words memory.words) }
+    ensures ok { IfOk result (λ memory. OpensAs (H.told host.old).files (option_map string_bytes map.now) image.now.symbols image.now.words memory.words) }
     ensures size { IfOk result (λ memory. length memory.words ≡ length image.now.words) }
-    ensures not { IfErr result (OpensNot (H.files host.old) (option_map string_bytes map.now) image.now.symbols image.now.words) }
-    ensures fault { result ≡ Err Outcome.Fault → Rose (H.faults host.old) (H.faults host.new) }
-    ensures no_fault { H.steady host.old → HasMap (H.files host.old) (option_map string_bytes map.now) → H.faults host.new ≡ H.faults host.old }
-    ensures later { H.faults host.old ≤ H.faults host.new }
-    ensures steady { H.steady host.old → H.steady host.new }
-    ensures files { H.files host.new ≡ H.files host.old }
-    ensures out { H.out host.new ≡ H.out host.old }
-    ensures err { H.err host.new ≡ H.err host.old }
+    ensures not { IfErr result (OpensNot (H.told host.old).files (option_map string_bytes map.now) image.now.symbols image.now.words) }
+    ensures fault { result ≡ Err Outcome.Fault → Rose (H.told host.old).faults (H.told host.new).faults }
+    ensures no_fault { MeetsNoFault (H.told host.old) (H.told host.new) (λ files. HasMap files (option_map string_bytes map.now)) }
+    ensures only { OnlyReads (H.told host.old) (H.told host.new) }
 {
     match map {
         None => opening(alloc, image.image()),

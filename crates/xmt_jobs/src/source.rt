@@ -1,5 +1,6 @@
 //! Reading and compiling the source in a file.
-ghost use Rattle.std.specs.Prelude.{◌≡◌, ◌≤◌, Err, IfOk, IfErr};
+ghost use Rattle.std.specs.Prelude.{◌≡◌, Err, IfOk, IfErr};
+ghost use Rattle.xmt_host.specs.Told.{MeetsNoFault, OnlyReads};
 ghost use Rattle.xmt_host.specs.Host.{Rose, HasFile};
 ghost use Rattle.xmt_jobs.specs.Sources.{Implemented, CompilesNot, end_of_source};
 
@@ -32,15 +33,11 @@ pub(crate) fn compile_file<H: Host>(
     file: &str,
     host: &mut H,
 ) -> Result<Image, Outcome>
-    ensures ok { IfOk result (Implemented (H.files host.old) file.now) }
-    ensures not { IfErr result (CompilesNot (H.files host.old) file.now) }
-    ensures fault { result ≡ Err Outcome.Fault → Rose (H.faults host.old) (H.faults host.new) }
-    ensures no_fault { H.steady host.old → HasFile (H.files host.old) file.now → H.faults host.new ≡ H.faults host.old }
-    ensures later { H.faults host.old ≤ H.faults host.new }
-    ensures steady { H.steady host.old → H.steady host.new }
-    ensures files { H.files host.new ≡ H.files host.old }
-    ensures out { H.out host.new ≡ H.out host.old }
-    ensures err { H.err host.new ≡ H.err host.old }
+    ensures ok { IfOk result (Implemented (H.told host.old).files file.now) }
+    ensures not { IfErr result (CompilesNot (H.told host.old).files file.now) }
+    ensures fault { result ≡ Err Outcome.Fault → Rose (H.told host.old).faults (H.told host.new).faults }
+    ensures no_fault { MeetsNoFault (H.told host.old) (H.told host.new) (λ files. HasFile files file.now) }
+    ensures only { OnlyReads (H.told host.old) (H.told host.new) }
 {
     match take_file(alloc, host, file, LIMIT) {
         Err(TakeFault::Fault) => Err(Outcome::Fault),

@@ -3,7 +3,8 @@ use Rattle.std.proofs.Common.{◌≡◌, subst, sym, ℕ, ◌≤◌, List, lengt
 use Rattle.std.specs.Prelude.{OnOk, OnErr}
 use Rattle.std.proofs.lemmas.Grind.{common_steps}
 use Rattle.xmt_host.specs.Host.{Rose}
-use Rattle.xmt_jobs.specs.Told.{Told, Writes, WritesPart}
+use Rattle.xmt_host.specs.Told.{Told}
+use Rattle.xmt_jobs.specs.Written.{Writes, WritesPart}
 use Rattle.xmt_top.specs.Complaints.{Complains}
 
 rose_earlier : (before mid now : ℕ) → before ≤ mid → Rose mid now → Rose before now

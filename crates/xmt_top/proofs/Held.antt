@@ -4,7 +4,8 @@ use Rattle.std.specs.Prelude.{IsSomeAnd}
 use Rattle.std.specs.Option.{ForSome}
 use Rattle.xmt_base.specs.declared.values.Place.{Place}
 use Rattle.xmt_base.specs.declared.values.Symbol.{Symbol}
-use Rattle.xmt_host.specs.Host.{FileMap, IsWholeFile}
+use Rattle.xmt_host.specs.Told.{FileMap}
+use Rattle.xmt_host.specs.Host.{IsWholeFile}
 use Rattle.source_meaning.specs.declared.tree.Program.{Program}
 use Rattle.front_end.specs.declared.refusal.SourceKind.{SourceKind}
 use Rattle.front_end.specs.Refused.{IsAccepted}

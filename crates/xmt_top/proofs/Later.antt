@@ -1,6 +1,6 @@
 -- How a job has ended says nothing of what is complained of later.
 use Rattle.std.proofs.Common.{◌≡◌, sym, subst, ℕ, List, Option, inl, inr}
-use Rattle.xmt_host.specs.Host.{FileMap}
+use Rattle.xmt_host.specs.Told.{FileMap}
 use Rattle.xmt_isa.specs.declared.image.Image.{Image}
 use Rattle.xmt_isa.specs.declared.run.Choice.{Choice}
 use Rattle.run_options.specs.declared.options.SimOptions.{SimOptions}
@@ -9,7 +9,8 @@ use Rattle.xmt_cli.specs.Given.{Text}
 use Rattle.xmt_cli.specs.JobOf.{Task, compile, simulate, run}
 use Rattle.xmt_jobs.specs.declared.outcome.Outcome.{Outcome}
 use Rattle.xmt_jobs.specs.declared.outcome.Outcome.TheVariants.{Done, SourceRefused, ImageRefused, MapRefused, Trap, Spent, Fault, NoMemory}
-use Rattle.xmt_jobs.specs.Told.{Told, told, IsSilent}
+use Rattle.xmt_host.specs.Told.{Told}
+use Rattle.xmt_jobs.specs.Written.{IsSilent}
 use Rattle.xmt_jobs.specs.Runs.{RunsTo}
 use Rattle.xmt_jobs.specs.Sources.{HasCompiled, HasCompiledPart, HasRun, HasRunPart}
 use Rattle.xmt_jobs.specs.Images.{HasSimulated, HasSimulatedPart}

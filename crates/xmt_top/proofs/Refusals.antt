@@ -9,7 +9,7 @@ use Rattle.xmt_cli.specs.Given.{Text}
 use Rattle.xmt_cli.specs.JobOf.{Task, compile, simulate, run}
 use Rattle.xmt_jobs.specs.declared.outcome.Outcome.{Outcome}
 use Rattle.xmt_jobs.specs.declared.outcome.Outcome.TheVariants.{Done, SourceRefused, ImageRefused, MapRefused, Trap, Spent, Fault, NoMemory}
-use Rattle.xmt_jobs.specs.Told.{Told}
+use Rattle.xmt_host.specs.Told.{Told}
 use Rattle.xmt_jobs.specs.Ended.{HasEnded}
 use Rattle.xmt_jobs.specs.Images.{HasSimulated}
 use Rattle.xmt_jobs.specs.Sources.{HasRun}

@@ -6,7 +6,8 @@ use Rattle.xmt_cli.specs.Given.{Text}
 use Rattle.xmt_cli.specs.JobOf.{Task, compile, simulate, run, task_of}
 use Rattle.xmt_jobs.specs.declared.outcome.Outcome.{Outcome}
 use Rattle.xmt_jobs.specs.declared.outcome.Outcome.TheVariants.{Done, SourceRefused, ImageRefused, MapRefused, Trap, Spent, Fault, NoMemory}
-use Rattle.xmt_jobs.specs.Told.{Told, WritesPart}
+use Rattle.xmt_host.specs.Told.{Told}
+use Rattle.xmt_jobs.specs.Written.{WritesPart}
 use Rattle.xmt_jobs.specs.Ended.{HasEnded}
 use Rattle.xmt_top.specs.Completeness.{MustRefuseSource, MustRefuseBytes, MustRun, MustEnd}
 use Rattle.xmt_top.specs.Shows.{ForTask, Shows, ShowsDone, ShowsRefusedSource, ShowsRefusedBytes, ShowsTrap, ShowsSpent, ShowsNoMemory, Reported, code_of, line_of}

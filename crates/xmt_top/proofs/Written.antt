@@ -2,7 +2,7 @@
 use Rattle.std.proofs.Common.{◌≡◌, ℕ, ◌+◌, List, ◌++◌, ◌-◌, length, take, drop, Some, None, Option, ap, ◌∙◌, arith, append_assoc}
 use Rattle.std.proofs.lemmas.List.{take-append-drop, drop-take, take-take}
 use Rattle.std.proofs.lemmas.Grind.{common_steps}
-use Rattle.xmt_jobs.specs.Told.{Writes}
+use Rattle.xmt_jobs.specs.Written.{Writes}
 
 -- two prefixes, one behind the other
 take_more_of : (bytes : List ℕ) (at n : ℕ) → take at bytes ++ take n (drop at bytes) ≡ take (at + n) bytes

@@ -6,7 +6,7 @@ use Rattle.std.specs.declared.option.Option.TheVariants.{Some, None}
 use Rattle.xmt_base.specs.declared.values.Symbol.{Symbol}
 use Rattle.xmt_base.specs.declared.values.Trap.{Trap}
 use Rattle.xmt_base.specs.declared.values.TrapKind.{TrapKind}
-use Rattle.xmt_host.specs.Host.{FileMap}
+use Rattle.xmt_host.specs.Told.{FileMap}
 use Rattle.source_meaning.specs.declared.tree.Program.{Program}
 use Rattle.source_meaning.specs.Layout.{opening_words, symbols_from}
 use Rattle.source_meaning.specs.Run as source

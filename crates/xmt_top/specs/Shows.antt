@@ -10,7 +10,8 @@ use Rattle.xmt_cli.specs.JobOf.{Task, compile, simulate, run, task_of}
 use Rattle.xmt_jobs.specs.declared.outcome.BytesFault.{BytesFault}
 use Rattle.xmt_jobs.specs.declared.outcome.Outcome.{Outcome}
 use Rattle.xmt_jobs.specs.declared.outcome.Outcome.TheVariants.{Done, SourceRefused, ImageRefused, MapRefused, Trap, Spent, Fault, NoMemory}
-use Rattle.xmt_jobs.specs.Told.{Told, IsSilent, WritesPart}
+use Rattle.xmt_host.specs.Told.{Told}
+use Rattle.xmt_jobs.specs.Written.{IsSilent, WritesPart}
 use Rattle.xmt_jobs.specs.Ended.{HasEnded}
 use Rattle.xmt_top.specs.Complaints.{Complains}
 use Rattle.xmt_top.specs.Messages.{refusal_line, bytes_line, trap_line, spent_line, fault_line, no_job_line, no_memory_line}

@@ -1,7 +1,8 @@
 //! The exit status of a job, and its line on the error stream.
 ghost use Rattle.std.specs.Prelude.{◌≡◌, ◌⊎◌, ◌≤◌, ℕ, List, IfOk, string_bytes};
 ghost use Rattle.xmt_cli.specs.JobOf.{seen_job};
-ghost use Rattle.xmt_jobs.specs.Told.{told, WritesPart};
+ghost use Rattle.xmt_host.specs.Told.{OnlyComplains};
+ghost use Rattle.xmt_jobs.specs.Written.{WritesPart};
 ghost use Rattle.xmt_top.specs.Complaints.{Complains};
 ghost use Rattle.xmt_top.specs.Shows.{code_of, file_of, line_of, map_of};
 
@@ -23,13 +24,9 @@ pub struct Status {
 /// Writes a line to the error stream. Want of memory makes the code 7.
 pub(crate) fn complain<H: Host>(code: u8, line: &[u8], host: &mut H) -> Status
     ensures code { (result.code ≡ code) ⊎ (result.code ≡ 7) }
-    ensures line { (result.code ≡ 7) ⊎ Complains line.now (told (H.files host.old) (H.out host.old) (H.err host.old) (H.faults host.old)) (told (H.files host.new) (H.out host.new) (H.err host.new) (H.faults host.new)) }
-    ensures part { WritesPart line.now (H.err host.old) (H.err host.new) }
-    ensures no_fault { H.steady host.old → H.faults host.new ≡ H.faults host.old }
-    ensures later { H.faults host.old ≤ H.faults host.new }
-    ensures steady { H.steady host.old → H.steady host.new }
-    ensures files { H.files host.new ≡ H.files host.old }
-    ensures out { H.out host.new ≡ H.out host.old }
+    ensures line { (result.code ≡ 7) ⊎ Complains line.now (H.told host.old) (H.told host.new) }
+    ensures part { WritesPart line.now (H.told host.old).err (H.told host.new).err }
+    ensures only { OnlyComplains (H.told host.old) (H.told host.new) }
 {
     match complain_all(host, line) {
         Ok(()) | Err(HostFault::Failed) => Status { code },
@@ -40,13 +37,9 @@ pub(crate) fn complain<H: Host>(code: u8, line: &[u8], host: &mut H) -> Status
 // Writes a line that was made, or else nothing.
 fn complain_made<H: Host>(code: u8, made: Result<String, AllocError>, host: &mut H) -> Status
     ensures code { (result.code ≡ code) ⊎ (result.code ≡ 7) }
-    ensures line { (line : List ℕ) → IfOk made (λ text. string_bytes text ≡ line) → (result.code ≡ 7) ⊎ Complains line (told (H.files host.old) (H.out host.old) (H.err host.old) (H.faults host.old)) (told (H.files host.new) (H.out host.new) (H.err host.new) (H.faults host.new)) }
-    ensures part { (line : List ℕ) → IfOk made (λ text. string_bytes text ≡ line) → WritesPart line (H.err host.old) (H.err host.new) }
-    ensures no_fault { H.steady host.old → H.faults host.new ≡ H.faults host.old }
-    ensures later { H.faults host.old ≤ H.faults host.new }
-    ensures steady { H.steady host.old → H.steady host.new }
-    ensures files { H.files host.new ≡ H.files host.old }
-    ensures out { H.out host.new ≡ H.out host.old }
+    ensures line { (line : List ℕ) → IfOk made (λ text. string_bytes text ≡ line) → (result.code ≡ 7) ⊎ Complains line (H.told host.old) (H.told host.new) }
+    ensures part { (line : List ℕ) → IfOk made (λ text. string_bytes text ≡ line) → WritesPart line (H.told host.old).err (H.told host.new).err }
+    ensures only { OnlyComplains (H.told host.old) (H.told host.new) }
 {
     match made {
         Ok(line) => complain(code, line.as_bytes(), host),
@@ -78,14 +71,10 @@ fn map_of(job: &Job) -> &str
 /// Complains of an outcome other than Done.
 pub(crate) fn report<H: Host>(alloc: Global, job: &Job, outcome: Outcome, host: &mut H) -> Status
     ensures code { (result.code ≡ code_of outcome) ⊎ (result.code ≡ 7) }
-    ensures line { (result.code ≡ 7) ⊎ Complains (line_of (seen_job job.now) outcome) (told (H.files host.old) (H.out host.old) (H.err host.old) (H.faults host.old)) (told (H.files host.new) (H.out host.new) (H.err host.new) (H.faults host.new)) }
-    ensures part { WritesPart (line_of (seen_job job.now) outcome) (H.err host.old) (H.err host.new) }
-    ensures done { result.code ≡ 0 → H.err host.new ≡ H.err host.old }
-    ensures no_fault { H.steady host.old → H.faults host.new ≡ H.faults host.old }
-    ensures later { H.faults host.old ≤ H.faults host.new }
-    ensures steady { H.steady host.old → H.steady host.new }
-    ensures files { H.files host.new ≡ H.files host.old }
-    ensures out { H.out host.new ≡ H.out host.old }
+    ensures line { (result.code ≡ 7) ⊎ Complains (line_of (seen_job job.now) outcome) (H.told host.old) (H.told host.new) }
+    ensures part { WritesPart (line_of (seen_job job.now) outcome) (H.told host.old).err (H.told host.new).err }
+    ensures done { result.code ≡ 0 → (H.told host.new).err ≡ (H.told host.old).err }
+    ensures only { OnlyComplains (H.told host.old) (H.told host.new) }
 {
     match outcome {
         Outcome::Done => Status { code: 0 },

@@ -1,5 +1,6 @@
 //! The run of an image.
 ghost use Rattle.std.specs.Prelude.{◌≡◌, ◌≤◌, length};
+ghost use Rattle.xmt_host.specs.Told.{OnlyPrints};
 ghost use Rattle.xmt_host.specs.Host.{Rose};
 ghost use Rattle.machine_core.specs.Runs.{Ends};
 ghost use Rattle.xmtsim_run.specs.Runs.{picked_run};
@@ -23,14 +24,9 @@ pub fn simulate<H: Host>(
     requires some { 1 ≤ options.now.units }
     requires few { options.now.units ≤ 64 }
     requires memory { length memory.words ≡ length image.now.words }
-    ensures end { Ends image.now options.now.budget (picked_run image.now memory.words options.now) (H.out host.old) (H.out host.new) result }
-    ensures fault { result ≡ SimEnd.WriteFault → Rose (H.faults host.old) (H.faults host.new) }
-    ensures later { H.faults host.old ≤ H.faults host.new }
-    ensures no_fault { H.steady host.old → H.faults host.new ≡ H.faults host.old }
-    ensures steady { H.steady host.old → H.steady host.new }
-    ensures files { H.files host.new ≡ H.files host.old }
-    ensures err { H.err host.new ≡ H.err host.old }
-    ensures taken { H.taken host.new ≡ H.taken host.old }
+    ensures end { Ends image.now options.now.budget (picked_run image.now memory.words options.now) (H.told host.old).out (H.told host.new).out result }
+    ensures fault { result ≡ SimEnd.WriteFault → Rose (H.told host.old).faults (H.told host.new).faults }
+    ensures only { OnlyPrints (H.told host.old) (H.told host.new) }
 {
     let seed = options.seed.unwrap_or(0);
     run_picked(alloc, image, memory, options, seed, host)

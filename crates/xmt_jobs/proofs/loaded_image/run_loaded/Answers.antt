@@ -1,7 +1,6 @@
 use Rattle.std.proofs.Common.{◌≡◌, ◌∙◌, ap, subst, string_bytes, length}
 use Rattle.std.specs.Option.{option_map}
 use Rattle.xmt_isa.specs.declared.image.Image.{Image}
-use Rattle.xmt_jobs.specs.Told.{told}
 use Rattle.xmt_jobs.proofs.Sizes.{data_size}
 use Rattle.xmt_jobs.proofs.Loaded.{dumped}
 use Rattle.xmt_jobs.proofs.loaded_image.run_loaded.Goals as goal
@@ -15,7 +14,7 @@ dump_words-requires g c =
 pub returns-in-Done-clause-ended : goal.returns-in-Done-clause-ended
 returns-in-Done-clause-ended g c =
     dumped c.args.image.now c.args.options.now (option_map string_bytes c.args.map.now) (option_map string_bytes c.args.dump.now)
-    (told (g.H.Host.files c.args.host.now) (g.H.Host.out c.args.host.now) (g.H.Host.err c.args.host.now) (g.H.Host.faults c.args.host.now))
-    (told (g.H.Host.files c.dump_words.new.host) (g.H.Host.out c.dump_words.new.host) (g.H.Host.err c.dump_words.new.host) (g.H.Host.faults c.dump_words.new.host)) c.in-Ok.memory.words c.in-Ok.ensures.ok
-    (g.H.Host.out c.opening_memory.new.host) (g.H.Host.out c.simulate.new.host) c.in-Ok.ensures.out c.dump_words.ensures.out (g.H.Host.files c.simulate.new.host)
-    (c.in-Done.ensures.files ∙ c.in-Ok.ensures.files) c.in-Done.memory.words c.in-Done.ensures.end c.dump_words.result c.dump_words.ensures.put
+    (g.H.Host.told c.args.host.now)
+    (g.H.Host.told c.dump_words.new.host) c.in-Ok.memory.words c.in-Ok.ensures.ok
+    (g.H.Host.told c.opening_memory.new.host).out (g.H.Host.told c.simulate.new.host).out c.in-Ok.ensures.only.out c.dump_words.ensures.only.out (g.H.Host.told c.simulate.new.host).files
+    (c.in-Done.ensures.only.files ∙ c.in-Ok.ensures.only.files) c.in-Done.memory.words c.in-Done.ensures.end c.dump_words.result c.dump_words.ensures.put

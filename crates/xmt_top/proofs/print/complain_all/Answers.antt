@@ -1,5 +1,6 @@
 use Rattle.std.proofs.Common.{◌∙◌, arith}
 use Rattle.std.proofs.lemmas.Grind.{common_steps}
+use Rattle.xmt_host.proofs.Later.{then_complains}
 use Rattle.xmt_top.proofs.Written.{writes_more, slice_rest}
 use Rattle.xmt_top.proofs.print.complain_all.Goals as goal
 
@@ -10,9 +11,5 @@ loop-at-preserved g c =
     record {
       inside = grind (arith, before.inside, written.bound, common_steps);
       written = writes_more c.args.bytes.now c.loop-at.at c.in-Ok.count _ _ _ before.written written.ok;
-      later = omega (arith, before.later, c.in-Ok.ensures.cause.later);
-      no_fault = λ steady. c.in-Ok.ensures.no_fault (before.steady steady) ∙ before.no_fault steady;
-      steady = λ steady. c.in-Ok.ensures.steady (before.steady steady);
-      files = c.in-Ok.ensures.files ∙ before.files;
-      out = c.in-Ok.ensures.out ∙ before.out;
+      only = then_complains _ _ _ before.only c.in-Ok.ensures.only;
     }

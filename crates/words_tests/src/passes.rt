@@ -2,10 +2,9 @@ ghost use Rattle.std.specs.Prelude.{◌≡◌, ℕ, ◌+◌, ◌<◌, [], ◌∷
 ghost use Rattle.shared_words.specs.History.{own};
 ghost use Rattle.shared_words.specs.Passes.{IsPassOf};
 ghost use Rattle.shared_words.specs.Sections.{unnumbered};
-ghost use Rattle.shared_words.specs.Workers.{IsReady, HasWorked};
+ghost use Rattle.words_tests.specs.Workers.{IsReady, HasWorked};
 
-use crate::{Pass, Words};
-use std::alloc::{AllocError, Global};
+use shared_words::{Pass, Words};
 use std::test::Fail;
 use std::thread::{for_each_mut, join_mut};
 

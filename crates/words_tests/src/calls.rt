@@ -1,6 +1,6 @@
 ghost use Rattle.std.specs.Prelude.{◌≡◌, ◌<◌};
 
-use crate::{draw, halted, ps, psm, raise, read, write};
+use prefix_sum::{draw, halted, ps, psm, raise, read, write};
 use shared_words::{Pass, Words};
 use std::test::Fail;
 use std::thread::join;

@@ -2,7 +2,7 @@ use Rattle.std.proofs.Common.{◌≡◌, ◌∙◌, ℕ, List, length, refl, ap,
 use Rattle.shared_words.specs.declared.log.Entry.{Entry}
 use Rattle.shared_words.specs.declared.log.Known.{Known}
 use Rattle.shared_words.proofs.Gathering.{starts}
-use Rattle.shared_words.proofs.tests.add_all.Goals as goal
+use Rattle.words_tests.proofs.passes.add_all.Goals as goal
 
 pub loop-init : goal.loop-init
 loop-init c =

@@ -1,18 +1,8 @@
--- What a host tells at one moment, and what was written to its streams between two.
+-- What was written to the streams of a host between two moments.
 use Rattle.std.specs.Prelude.{◌≡◌, ℕ, List, ◌++◌, take}
 use Rattle.std.specs.declared.option.Option.{Option}
 use Rattle.std.specs.Option.{option_map}
-use Rattle.xmt_host.specs.Host.{FileMap}
-
--- each where the host tells it
-pub record Told : Type 0 where
-  pub files : Option FileMap
-  pub out : Option (List ℕ)
-  pub err : Option (List ℕ)
-  pub faults : ℕ
-
-abbrev pub told : Option FileMap → (out err : Option (List ℕ)) → (faults : ℕ) → Told
-told files out err faults = record { files = files; out = out; err = err; faults = faults }
+use Rattle.xmt_host.specs.Told.{Told}
 
 -- these bytes were written to a stream
 abbrev pub Writes : List ℕ → Option (List ℕ) → Option (List ℕ) → Type 0

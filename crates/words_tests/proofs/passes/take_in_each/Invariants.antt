@@ -1,7 +1,7 @@
 use Rattle.std.proofs.Common.{◌≡◌, ℕ, ◌<◌, ◌≤◌, length, slice_index_or}
-use Rattle.shared_words.specs.declared.tests.Worker.{Worker}
-use Rattle.shared_words.specs.Workers.{HasWorked}
-use Rattle.shared_words.proofs.tests.take_in_each.Given as goal
+use Rattle.words_tests.specs.declared.passes.Worker.{Worker}
+use Rattle.words_tests.specs.Workers.{HasWorked}
+use Rattle.words_tests.proofs.passes.take_in_each.Given as goal
 
 abbrev pub invariant-loop-worker : goal.invariant-loop-worker
 invariant-loop-worker l =

@@ -1,4 +1,4 @@
--- For the tests: the passes of workers that draw one number each.
+-- The passes of workers that draw one number each.
 use Rattle.std.specs.Prelude.{◌≡◌, ℕ, [], ◌∷◌, length, Option, Some, None}
 use Rattle.shared_words.specs.History.{own}
 use Rattle.shared_words.specs.Passes.{WordsId, Token, IsPassOf}

@@ -1,7 +1,7 @@
 use Rattle.std.proofs.Common.{◌≡◌, ℕ, ◌+◌, [], ◌∷◌, Some, length}
 use Rattle.shared_words.specs.History.{own}
 use Rattle.shared_words.specs.Passes.{IsPassOf}
-use Rattle.shared_words.proofs.tests.add_all.Given as goal
+use Rattle.words_tests.proofs.passes.add_all.Given as goal
 
 -- the pass writes with its one number, of which it has seen the enrolment and the adds
 abbrev pub invariant-loop : goal.invariant-loop
