@@ -6,7 +6,7 @@ use std::alloc::AllocError;
 use xmt_quads::{Operand, Quad};
 
 /// A quad with its source line.
-#[derive(Clone, Copy, Debug, PartialEq, Eq)]
+#[derive(Clone, Copy)]
 pub struct Placed {
     pub quad: Quad,
     pub line: u32,

@@ -208,8 +208,9 @@ pub fn emit_expression(
             put(code, reading(r, access(tables, r, p)), line)
         }
         ExprKind::Unary(op, a) => {
-            emit_expression(a.get(), code, tables, r)?;
-            put(code, Quad::Unary(*op, r, operand(r, a.get())), line)
+            let a = a.get();
+            emit_expression(a, code, tables, r)?;
+            put(code, Quad::Unary(*op, r, operand(r, a)), line)
         }
         ExprKind::Binary(_, _, _) => emit_binary(e, code, tables, r),
         ExprKind::Call(_, _) => emit_call(e, code, tables, r),
@@ -242,8 +243,7 @@ fn emit_binary(
             emit_expression(a, code, tables, r)?;
             emit_expression(b, code, tables, second)?;
             let joined = Quad::Binary(*op, r, operand(r, a), operand(second, b));
-            put(code, joined, line)?;
-            Ok(())
+            put(code, joined, line)
         }
         _ => Ok(()),
     }
@@ -265,8 +265,7 @@ fn emit_call(
         ExprKind::Call(function, values) => {
             let values = values.as_slice();
             emit_values(values, code, tables, r)?;
-            put_call(values, *function, code, line, r)?;
-            Ok(())
+            put_call(values, *function, code, line, r)
         }
         _ => Ok(()),
     }
@@ -290,8 +289,7 @@ fn emit_assign(
             let free = behind(r, p)?;
             emit_spot(p, code, tables, r, line)?;
             emit_expression(e, code, tables, free)?;
-            put_assigned(code, tables, r, p, operand(free, e), line)?;
-            Ok(())
+            put_assigned(code, tables, r, p, operand(free, e), line)
         }
         _ => Ok(()),
     }
@@ -316,8 +314,7 @@ fn emit_update(
             let old = put_read(code, tables, r, p, line)?;
             let value = next(old)?;
             emit_expression(e, code, tables, value)?;
-            put_updated(code, tables, r, old, *op, p, operand(value, e), line)?;
-            Ok(())
+            put_updated(code, tables, r, old, *op, p, operand(value, e), line)
         }
         _ => Ok(()),
     }
@@ -338,8 +335,7 @@ fn emit_step(
     match &e.kind {
         ExprKind::Step { spot, up, after } => {
             emit_spot(spot, code, tables, r, line)?;
-            put_stepped(code, tables, r, spot, *up, *after, line)?;
-            Ok(())
+            put_stepped(code, tables, r, spot, *up, *after, line)
         }
         _ => Ok(()),
     }
@@ -366,8 +362,7 @@ fn emit_both(
             emit_tested(b, code, tables, r, line)?;
             let jump = reserve(code, line)?;
             put(code, Quad::Copy(r, Operand::Literal(0)), line)?;
-            close_choice(code, skip, true, operand(r, a), jump, line)?;
-            Ok(())
+            close_choice(code, skip, true, operand(r, a), jump, line)
         }
         _ => Ok(()),
     }
@@ -394,8 +389,7 @@ fn emit_either(
             emit_tested(b, code, tables, r, line)?;
             let jump = reserve(code, line)?;
             put(code, Quad::Copy(r, Operand::Literal(1)), line)?;
-            close_choice(code, skip, false, operand(r, a), jump, line)?;
-            Ok(())
+            close_choice(code, skip, false, operand(r, a), jump, line)
         }
         _ => Ok(()),
     }
@@ -421,8 +415,7 @@ fn emit_choose(
             emit_side(a.get(), code, tables, r, line)?;
             let jump = reserve(code, line)?;
             emit_side(b.get(), code, tables, r, line)?;
-            close_choice(code, skip, true, operand(r, test), jump, line)?;
-            Ok(())
+            close_choice(code, skip, true, operand(r, test), jump, line)
         }
         _ => Ok(()),
     }
@@ -472,8 +465,9 @@ pub(crate) fn emit_spot(
 {
     match p {
         Spot::Element(g, index) => {
-            emit_expression(index.get(), code, tables, r)?;
-            let test = Quad::Test(operand(r, index.get()), size_of(tables, *g));
+            let index = index.get();
+            emit_expression(index, code, tables, r)?;
+            let test = Quad::Test(operand(r, index), size_of(tables, *g));
             put(code, test, line)
         }
         Spot::Global(_) | Spot::Register(_) | Spot::Local(_) => Ok(()),

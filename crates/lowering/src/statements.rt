@@ -105,10 +105,7 @@ pub(crate) fn emit_statement(
 {
     let line = s.at.line;
     match &s.kind {
-        StmtKind::Block(body) => {
-            emit_statements(body.as_slice(), code, texts, tables, r, exits)?;
-            Ok(())
-        }
+        StmtKind::Block(body) => { emit_statements(body.as_slice(), code, texts, tables, r, exits) }
         StmtKind::If(_, _, _) => emit_if(s, code, texts, tables, r, exits),
         StmtKind::While(_, _) => emit_while(s, code, texts, tables, r, exits),
         StmtKind::Do(_, _) => emit_do(s, code, texts, tables, r, exits),
@@ -116,13 +113,9 @@ pub(crate) fn emit_statement(
         StmtKind::Spawn(_, _, _) => emit_spawn(s, code, texts, tables, r, exits),
         StmtKind::Print(text, values) => {
             let values = values.as_slice();
-            emit_print(values, text.as_slice(), code, texts, tables, r, line)?;
-            Ok(())
+            emit_print(values, text.as_slice(), code, texts, tables, r, line)
         }
-        _ => {
-            emit_plain(s, code, tables, r, exits)?;
-            Ok(())
-        }
+        _ => { emit_plain(s, code, tables, r, exits) }
     }
 }
 
@@ -148,8 +141,7 @@ fn emit_if(
             emit_statement(body.get(), code, texts, tables, r, exits)?;
             let jump = reserve(code, line)?;
             emit_other(other, code, texts, tables, r, exits)?;
-            close_choice(code, skip, true, operand(r, test), jump, line)?;
-            Ok(())
+            close_choice(code, skip, true, operand(r, test), jump, line)
         }
         _ => Ok(()),
     }
@@ -173,8 +165,7 @@ fn emit_while(
         StmtKind::While(test, body) => {
             let head = open_while(test.get(), code, tables, r, line)?;
             emit_statement(body.get(), code, texts, tables, r, head.exits)?;
-            close_while(code, head, line)?;
-            Ok(())
+            close_while(code, head, line)
         }
         _ => Ok(()),
     }
@@ -198,8 +189,7 @@ fn emit_do(
         StmtKind::Do(body, test) => {
             let inner = open_loop(code, None, line)?;
             emit_statement(body.get(), code, texts, tables, r, inner)?;
-            close_do(test.get(), code, tables, r, inner, line)?;
-            Ok(())
+            close_do(test.get(), code, tables, r, inner, line)
         }
         _ => Ok(()),
     }
@@ -224,8 +214,7 @@ fn emit_for(
             emit_statements(first.as_slice(), code, texts, tables, r, exits)?;
             let head = open_tested(test, code, tables, r, line)?;
             emit_statement(body.get(), code, texts, tables, r, head.exits)?;
-            close_for(third, code, tables, r, head, line)?;
-            Ok(())
+            close_for(third, code, tables, r, head, line)
         }
         _ => Ok(()),
     }
@@ -249,8 +238,7 @@ fn emit_spawn(
         StmtKind::Spawn(low, high, block) => {
             emit_bounds(low.get(), high.get(), code, tables, r, line)?;
             emit_statements(block.as_slice(), code, texts, tables, r, exits)?;
-            put(code, Quad::Join, line)?;
-            Ok(())
+            put(code, Quad::Join, line)
         }
         _ => Ok(()),
     }
@@ -270,10 +258,7 @@ fn emit_other(
 {
     match other {
         None => Ok(()),
-        Some(s) => {
-            emit_statement(s.get(), code, texts, tables, r, exits)?;
-            Ok(())
-        }
+        Some(s) => { emit_statement(s.get(), code, texts, tables, r, exits) }
     }
 }
 
