@@ -8,6 +8,3 @@ mod spawns;
 
 pub use slots::slots_have_no_masks;
 pub use spawns::masks;
-
-#[cfg(test)]
-mod tests;

@@ -9,6 +9,3 @@ mod operands;
 
 pub use live::live_in;
 pub use marking::live_positions;
-
-#[cfg(test)]
-mod tests;

@@ -19,6 +19,3 @@ pub use loops::Exits;
 pub use program::lower;
 pub use tables::Tables;
 pub use texts::Texts;
-
-#[cfg(test)]
-mod tests;

@@ -10,6 +10,3 @@ pub use globals::{layout, opening};
 pub use meaning::laws_of_runs;
 pub use tree::{Expr, ExprKind, Function, GlobalVar, Program, Register, Spot, Stmt, StmtKind};
 pub use xmt_base::{BinOp, UnOp};
-
-#[cfg(test)]
-mod tests;

@@ -11,6 +11,3 @@ mod homes;
 pub use code::{Operand, Quad, QuadFunction, QuadProgram, Where};
 pub use homes::{Allocation, Home, plain};
 pub use xmt_base::{BinOp, UnOp};
-
-#[cfg(test)]
-mod tests;
