@@ -113,15 +113,11 @@ pub fn open_array<'a>(
     })
 }
 
-pub fn globals<'a>(
-    ty: Read<'a, RawType>,
-    all: Read<'a, Items<RawGlobal>>,
-    rest: &'a [Token],
-) -> Read<'a, RawItem>
-    ensures { Some (gives.view result) ≡ got (grammar.item ty.entry.tree.at (i.Globals ty.entry.tree all.entry.tree)) 0 rest.now }
+pub fn globals<'a>(ty: Read<'a, RawType>, all: Read<'a, Items<RawGlobal>>) -> Read<'a, RawItem>
+    ensures { Some (gives.view result) ≡ got (grammar.item ty.entry.tree.at (i.Globals ty.entry.tree all.entry.tree)) 0 all.entry.rest.now }
 {
     let Read { tree: ty, .. } = ty;
-    let Read { tree, .. } = all;
+    let Read { tree, rest, .. } = all;
     Read {
         tree: item(ty.at, RawItemKind::Globals(ty, tree)),
         nest: 0,
@@ -144,15 +140,10 @@ pub fn register<'a>(
     }
 }
 
-pub fn registers<'a>(
-    at: Place,
-    int: bool,
-    all: Read<'a, Items<RawRegister>>,
-    rest: &'a [Token],
-) -> Read<'a, RawItem>
-    ensures { Some (gives.view result) ≡ got (grammar.item at (i.Registers int all.entry.tree)) 0 rest.now }
+pub fn registers<'a>(at: Place, int: bool, all: Read<'a, Items<RawRegister>>) -> Read<'a, RawItem>
+    ensures { Some (gives.view result) ≡ got (grammar.item at (i.Registers int all.entry.tree)) 0 all.entry.rest.now }
 {
-    let Read { tree, .. } = all;
+    let Read { tree, rest, .. } = all;
     Read {
         tree: item(at, RawItemKind::Registers(int, tree)),
         nest: 0,

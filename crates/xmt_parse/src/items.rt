@@ -16,7 +16,7 @@ use crate::item_nodes::{
 use raw_expressions::{Part, read_part};
 use raw_statements::{read_body, read_opening, read_type};
 use raw_tree::kinds::{Expected, bytes_between, close_round, is_name, open_curly, open_round};
-use raw_tree::read::{Read, ReadError, behind, name_of, past, read_name};
+use raw_tree::read::{Read, ReadError, behind, followed_by, name_of, past, read_name};
 use raw_tree::{RawGlobal, RawItem, RawParam, RawParams, RawRegister, RawValues};
 use sqlite_items::Items;
 use std::alloc::Global;
@@ -136,8 +136,8 @@ fn read_sized<'a>(
     ensures { gives.Gives result (items.array_behind (spec.readers source.now depth).of_cond (grammar.name_of source.now t) ts.now None) }
 {
     let length = read_part(alloc, source, depth, Part::Cond, ts)?;
-    let more = past(Expected::CloseSquare, length.rest)?;
-    let values = read_values_of(alloc, source, depth, more)?;
+    let length = followed_by(Expected::CloseSquare, length)?;
+    let values = read_values_of(alloc, source, depth, length.rest)?;
     array(alloc, source, t, length, values)
 }
 
@@ -247,8 +247,8 @@ fn read_globals<'a>(
 {
     let ty = read_type(alloc, ts)?;
     let all = read_global_list(alloc, source, depth, ty.rest)?;
-    let rest = past(Expected::Semicolon, all.rest)?;
-    Ok(globals(ty, all, rest))
+    let all = followed_by(Expected::Semicolon, all)?;
+    Ok(globals(ty, all))
 }
 
 fn read_register<'a>(
@@ -318,8 +318,8 @@ fn registers_of<'a>(
     ensures { gives.Gives result (items.registers_of source.now (spec.readers source.now depth).of_cond at int ts.now) }
 {
     let all = read_register_list(alloc, source, depth, ts)?;
-    let rest = past(Expected::Semicolon, all.rest)?;
-    Ok(registers(at, int, all, rest))
+    let all = followed_by(Expected::Semicolon, all)?;
+    Ok(registers(at, int, all))
 }
 
 fn read_registers<'a>(
@@ -483,15 +483,10 @@ fn read_headed<'a>(
 {
     let inner = past(Expected::OpenRound, ts)?;
     let all = read_params(alloc, source, inner)?;
-    let Read {
-        tree: all,
-        rest,
-        ..
-    } = all;
-    let more = past(Expected::CloseRound, rest)?;
-    match behind(Expected::Semicolon, more) {
-        None => read_function(alloc, source, depth, head, all, more),
-        Some(behind_all) => prototype(alloc, source, head, all, behind_all),
+    let Read { tree, rest, .. } = followed_by(Expected::CloseRound, all)?;
+    match behind(Expected::Semicolon, rest) {
+        None => read_function(alloc, source, depth, head, tree, rest),
+        Some(behind_all) => prototype(alloc, source, head, tree, behind_all),
     }
 }
 
