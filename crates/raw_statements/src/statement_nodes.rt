@@ -7,6 +7,7 @@ ghost use Rattle.raw_tree.specs.ReadingStatements as code;
 ghost use Rattle.raw_tree.specs.Reading.{got};
 ghost use Rattle.raw_tree.specs.declared.tree.RawFirst.TheVariants as first;
 ghost use Rattle.raw_tree.specs.declared.tree.RawStmtKind.TheVariants as s;
+ghost use Rattle.raw_statements.specs.Heads as heads;
 
 use raw_tree::read::{Read, ReadError};
 use raw_tree::{
@@ -71,7 +72,7 @@ pub fn declaration<'a>(
     ty: Read<'a, RawType>,
     locals: Read<'a, Items<RawLocal>>,
 ) -> Result<Read<'a, Boxed<RawDecl>>, ReadError>
-    ensures { gives.Gives result (got (record { at = ty.entry.tree.at; ty = ty.entry.tree; locals = locals.entry.tree }) locals.entry.nest locals.entry.rest.now) }
+    ensures { gives.Gives result (heads.declared ty.entry.tree (gives.view locals.entry)) }
 {
     let Read { tree: ty, .. } = ty;
     let Read {
@@ -255,7 +256,7 @@ pub fn for_parts<'a>(
     test: Read<'a, Option<Boxed<RawExpr>>>,
     third: Read<'a, Option<Boxed<RawExpr>>>,
 ) -> Read<'a, ForHead>
-    ensures { Some (gives.view result) ≡ got (record { first = first.entry.tree; test = test.entry.tree; third = third.entry.tree }) 0 third.entry.rest.now }
+    ensures { Some (gives.view result) ≡ heads.for_parts first.entry.tree test.entry.tree (gives.view third.entry) }
 {
     let Read { tree: first, .. } = first;
     let Read { tree: test, .. } = test;

@@ -1,6 +1,6 @@
 //! Makes the nodes of items from the parts that were read.
 
-ghost use Rattle.std.specs.Prelude.{◌≡◌, IfOk, Some, max};
+ghost use Rattle.std.specs.Prelude.{◌≡◌, IfOk, Some};
 ghost use Rattle.raw_tree.specs.Gives as gives;
 ghost use Rattle.raw_tree.specs.Grammar.{name_of};
 ghost use Rattle.raw_tree.specs.Items as grammar;
@@ -79,7 +79,7 @@ pub fn array<'a>(
     length: Read<'a, Boxed<RawExpr>>,
     values: Read<'a, Option<RawValues>>,
 ) -> Result<Read<'a, RawGlobal>, ReadError>
-    ensures { gives.Gives result (got (global.Array (name_of source.now t) length.entry.tree values.entry.tree) (max length.entry.nest values.entry.nest) values.entry.rest.now) }
+    ensures { gives.Gives result (heads.sized (name_of source.now t) (gives.view length.entry) (gives.view values.entry)) }
 {
     let Read {
         tree: size,
@@ -211,7 +211,7 @@ pub fn function<'a>(
     all: RawParams,
     body: Read<'a, Items<RawStmt>>,
 ) -> Result<Read<'a, RawItem>, ReadError>
-    ensures { gives.Gives result (got (grammar.item head.at (i.Function (heads.result_of source.now head) all body.entry.tree)) 0 body.entry.rest.now) }
+    ensures { gives.Gives result (heads.defined source.now head all (gives.view body.entry)) }
 {
     let Read { tree, rest, .. } = body;
     let made = result_of(alloc, source, head)?;

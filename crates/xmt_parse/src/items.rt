@@ -1,8 +1,7 @@
 //! Reads the items of a program.
 
-ghost use Rattle.std.specs.Prelude.{MatchOption, ◌≡◌, ◌<◌, ◌^◌, [], None, Some, length, bytes_eq, codes};
+ghost use Rattle.std.specs.Prelude.{MatchOption, ◌≡◌, ◌<◌, ◌^◌, [], length, bytes_eq, codes};
 ghost use Rattle.raw_tree.specs.Gives as gives;
-ghost use Rattle.raw_tree.specs.Grammar as grammar;
 ghost use Rattle.raw_tree.specs.Level.{bytes_of};
 ghost use Rattle.raw_tree.specs.Reading as spec;
 ghost use Rattle.raw_tree.specs.ReadingItems as items;
@@ -133,7 +132,7 @@ fn read_sized<'a>(
     ts: &'a [Token],
 ) -> Result<Read<'a, RawGlobal>, ReadError>
     requires { depth < 2 ^ 20 }
-    ensures { gives.Gives result (items.array_behind (spec.readers source.now depth).of_cond (grammar.name_of source.now t) ts.now None) }
+    ensures { gives.Gives result (heads.of_length source.now depth t ts.now) }
 {
     let length = read_part(alloc, source, depth, Part::Cond, ts)?;
     let length = followed_by(Expected::CloseSquare, length)?;
@@ -150,7 +149,7 @@ fn read_open<'a>(
     ts: &'a [Token],
 ) -> Result<Read<'a, RawGlobal>, ReadError>
     requires { depth < 2 ^ 20 }
-    ensures { gives.Gives result (items.array_behind (spec.readers source.now depth).of_cond (grammar.name_of source.now t) [] (Some ts.now)) }
+    ensures { gives.Gives result (heads.of_values source.now depth t ts.now) }
 {
     let inner = past(Expected::Equal, ts)?;
     let values = read_array(alloc, source, depth, inner)?;
@@ -166,7 +165,7 @@ fn read_named<'a>(
     ts: &'a [Token],
 ) -> Result<Read<'a, RawGlobal>, ReadError>
     requires { depth < 2 ^ 20 }
-    ensures { gives.Gives result (items.global_behind (spec.readers source.now depth).of_cond (grammar.name_of source.now t) ts.now (spec.past spec.open_square ts.now)) }
+    ensures { gives.Gives result (heads.global_of source.now depth t ts.now) }
 {
     match behind(Expected::OpenSquare, ts) {
         None => {
@@ -459,7 +458,7 @@ fn read_function<'a>(
     ts: &'a [Token],
 ) -> Result<Read<'a, RawItem>, ReadError>
     requires { depth < 2 ^ 20 }
-    ensures { gives.Gives result (items.read_function (code.read_piece source.now depth) head.at (heads.result_of source.now head) all ts.now) }
+    ensures { gives.Gives result (heads.function_of source.now depth head all ts.now) }
 {
     if all_named(&all) {
         let inner = past(Expected::OpenCurly, ts)?;
@@ -479,7 +478,7 @@ fn read_headed<'a>(
     ts: &'a [Token],
 ) -> Result<Read<'a, RawItem>, ReadError>
     requires { depth < 2 ^ 20 }
-    ensures { gives.Gives result (items.read_headed source.now (code.read_piece source.now depth) head.at (heads.result_of source.now head) ts.now) }
+    ensures { gives.Gives result (heads.item_of source.now depth head ts.now) }
 {
     let inner = past(Expected::OpenRound, ts)?;
     let all = read_params(alloc, source, inner)?;
