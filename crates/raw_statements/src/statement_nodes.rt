@@ -7,6 +7,7 @@ ghost use Rattle.raw_tree.specs.ReadingStatements as code;
 ghost use Rattle.raw_tree.specs.Reading.{got};
 ghost use Rattle.raw_tree.specs.declared.tree.RawFirst.TheVariants as first;
 ghost use Rattle.raw_tree.specs.declared.tree.RawStmtKind.TheVariants as s;
+ghost use Rattle.raw_statements.specs.Heads as heads;
 
 use raw_tree::read::{Read, ReadError};
 use raw_tree::{
@@ -23,14 +24,6 @@ pub fn statement(alloc: Global, at: Place, kind: RawStmtKind) -> Result<Boxed<Ra
     ensures { IfOk result (λ a. a ≡ grammar.statement at kind) }
 {
     Boxed::new(alloc, RawStmt { at, kind })
-}
-
-/// An expression with other tokens behind it.
-pub fn before<'a>(a: Read<'a, Boxed<RawExpr>>, rest: &'a [Token]) -> Read<'a, Boxed<RawExpr>>
-    ensures { Some (gives.view result) ≡ got a.entry.tree a.entry.nest rest.now }
-{
-    let Read { tree, nest, .. } = a;
-    Read { tree, nest, rest }
 }
 
 /// An expression that could be left out.
@@ -78,15 +71,14 @@ pub fn declaration<'a>(
     alloc: Global,
     ty: Read<'a, RawType>,
     locals: Read<'a, Items<RawLocal>>,
-    rest: &'a [Token],
 ) -> Result<Read<'a, Boxed<RawDecl>>, ReadError>
-    ensures { gives.Gives result (got (record { at = ty.entry.tree.at; ty = ty.entry.tree; locals = locals.entry.tree }) locals.entry.nest rest.now) }
+    ensures { gives.Gives result (heads.declared ty.entry.tree (gives.view locals.entry)) }
 {
     let Read { tree: ty, .. } = ty;
     let Read {
         tree: locals,
         nest,
-        ..
+        rest,
     } = locals;
     let at = ty.at;
     let tree = Boxed::new(alloc, RawDecl { at, ty, locals })?;
@@ -111,11 +103,10 @@ pub fn first_decl<'a>(
 pub fn first_value<'a>(
     alloc: Global,
     value: Read<'a, Option<Boxed<RawExpr>>>,
-    rest: &'a [Token],
 ) -> Result<Read<'a, Boxed<RawFirst>>, ReadError>
-    ensures { gives.Gives result (code.first_value (gives.view value.entry) rest.now) }
+    ensures { gives.Gives result (code.first_value (gives.view value.entry) value.entry.rest.now) }
 {
-    let Read { tree, .. } = value;
+    let Read { tree, rest, .. } = value;
     let tree = Boxed::new(alloc, RawFirst::Value(tree))?;
     Ok(Read {
         tree,
@@ -144,11 +135,10 @@ pub fn alone<'a>(
 pub fn value<'a>(
     alloc: Global,
     a: Read<'a, Boxed<RawExpr>>,
-    rest: &'a [Token],
 ) -> Result<Read<'a, Boxed<RawStmt>>, ReadError>
-    ensures { gives.Gives result (got (grammar.statement a.entry.tree.at (s.Value a.entry.tree)) 0 rest.now) }
+    ensures { gives.Gives result (got (grammar.statement a.entry.tree.at (s.Value a.entry.tree)) 0 a.entry.rest.now) }
 {
-    let Read { tree, .. } = a;
+    let Read { tree, rest, .. } = a;
     let at = tree.get().at;
     alone(alloc, at, RawStmtKind::Value(tree), rest)
 }
@@ -245,12 +235,11 @@ pub fn do_loop<'a>(
     at: Place,
     body: Read<'a, Boxed<RawStmt>>,
     test: Read<'a, Boxed<RawExpr>>,
-    rest: &'a [Token],
 ) -> Result<Read<'a, Boxed<RawStmt>>, ReadError>
-    ensures { gives.Gives result (got (grammar.statement at (s.Do body.entry.tree test.entry.tree)) 0 rest.now) }
+    ensures { gives.Gives result (got (grammar.statement at (s.Do body.entry.tree test.entry.tree)) 0 test.entry.rest.now) }
 {
     let Read { tree: b, .. } = body;
-    let Read { tree: a, .. } = test;
+    let Read { tree: a, rest, .. } = test;
     alone(alloc, at, RawStmtKind::Do(b, a), rest)
 }
 
@@ -266,13 +255,16 @@ pub fn for_parts<'a>(
     first: Read<'a, Boxed<RawFirst>>,
     test: Read<'a, Option<Boxed<RawExpr>>>,
     third: Read<'a, Option<Boxed<RawExpr>>>,
-    rest: &'a [Token],
 ) -> Read<'a, ForHead>
-    ensures { Some (gives.view result) ≡ got (record { first = first.entry.tree; test = test.entry.tree; third = third.entry.tree }) 0 rest.now }
+    ensures { Some (gives.view result) ≡ heads.for_parts first.entry.tree test.entry.tree (gives.view third.entry) }
 {
     let Read { tree: first, .. } = first;
     let Read { tree: test, .. } = test;
-    let Read { tree: third, .. } = third;
+    let Read {
+        tree: third,
+        rest,
+        ..
+    } = third;
     Read {
         tree: ForHead { first, test, third },
         nest: 0,
@@ -302,11 +294,10 @@ pub fn return_value<'a>(
     alloc: Global,
     at: Place,
     value: Read<'a, Option<Boxed<RawExpr>>>,
-    rest: &'a [Token],
 ) -> Result<Read<'a, Boxed<RawStmt>>, ReadError>
-    ensures { gives.Gives result (got (grammar.statement at (s.Return value.entry.tree)) 0 rest.now) }
+    ensures { gives.Gives result (got (grammar.statement at (s.Return value.entry.tree)) 0 value.entry.rest.now) }
 {
-    let Read { tree, .. } = value;
+    let Read { tree, rest, .. } = value;
     alone(alloc, at, RawStmtKind::Return(tree), rest)
 }
 
@@ -359,12 +350,11 @@ pub fn ps<'a>(
     at: Place,
     variable: Read<'a, RawName>,
     base: Read<'a, RawName>,
-    rest: &'a [Token],
 ) -> Result<Read<'a, Boxed<RawStmt>>, ReadError>
-    ensures { gives.Gives result (got (grammar.statement at (s.Ps variable.entry.tree base.entry.tree)) 0 rest.now) }
+    ensures { gives.Gives result (got (grammar.statement at (s.Ps variable.entry.tree base.entry.tree)) 0 base.entry.rest.now) }
 {
     let Read { tree: a, .. } = variable;
-    let Read { tree: b, .. } = base;
+    let Read { tree: b, rest, .. } = base;
     alone(alloc, at, RawStmtKind::Ps(a, b), rest)
 }
 
@@ -373,12 +363,11 @@ pub fn psm<'a>(
     at: Place,
     variable: Read<'a, RawName>,
     place: Read<'a, Boxed<RawSpot>>,
-    rest: &'a [Token],
 ) -> Result<Read<'a, Boxed<RawStmt>>, ReadError>
-    ensures { gives.Gives result (got (grammar.statement at (s.Psm variable.entry.tree place.entry.tree)) 0 rest.now) }
+    ensures { gives.Gives result (got (grammar.statement at (s.Psm variable.entry.tree place.entry.tree)) 0 place.entry.rest.now) }
 {
     let Read { tree: a, .. } = variable;
-    let Read { tree: b, .. } = place;
+    let Read { tree: b, rest, .. } = place;
     alone(alloc, at, RawStmtKind::Psm(a, b), rest)
 }
 
@@ -387,11 +376,14 @@ pub fn print<'a>(
     at: Place,
     text: Read<'a, RawText>,
     values: Read<'a, Items<RawExpr>>,
-    rest: &'a [Token],
 ) -> Result<Read<'a, Boxed<RawStmt>>, ReadError>
-    ensures { gives.Gives result (got (grammar.statement at (s.Print text.entry.tree values.entry.tree)) 0 rest.now) }
+    ensures { gives.Gives result (got (grammar.statement at (s.Print text.entry.tree values.entry.tree)) 0 values.entry.rest.now) }
 {
     let Read { tree: a, .. } = text;
-    let Read { tree: all, .. } = values;
+    let Read {
+        tree: all,
+        rest,
+        ..
+    } = values;
     alone(alloc, at, RawStmtKind::Print(a, all), rest)
 }

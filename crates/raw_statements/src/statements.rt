@@ -10,12 +10,12 @@ ghost use Rattle.raw_statements.specs.Heads as heads;
 
 use crate::declarations::{read_decl, read_maybe, read_text};
 use crate::statement_nodes::{
-    Bounds, ForHead, alone, before, declare, do_loop, first_decl, first_value, for_parts,
-    low_and_high, print, ps, psm, return_value, value,
+    Bounds, ForHead, alone, declare, do_loop, first_decl, first_value, for_parts, low_and_high,
+    print, ps, psm, return_value, value,
 };
 use raw_expressions::{expression, expressions, place};
 use raw_tree::kinds::{Expected, begins_type};
-use raw_tree::read::{Read, ReadError, behind, past, read_name};
+use raw_tree::read::{Read, ReadError, behind, followed_by, past, read_name};
 use raw_tree::{RawExpr, RawFirst, RawStmt, RawStmtKind};
 use sqlite_items::{Boxed, Items};
 use std::alloc::Global;
@@ -34,8 +34,7 @@ pub fn read_round<'a>(
 {
     let inner = past(Expected::OpenRound, ts)?;
     let a = expression(alloc, source, d, inner)?;
-    let rest = past(Expected::CloseRound, a.rest)?;
-    Ok(before(a, rest))
+    followed_by(Expected::CloseRound, a)
 }
 
 // The first part of a `for`, with its semicolon.
@@ -56,8 +55,8 @@ pub fn read_first<'a>(
                 first_decl(alloc, decl)
             } else {
                 let a = read_maybe(alloc, source, d, Expected::Semicolon, ts)?;
-                let rest = past(Expected::Semicolon, a.rest)?;
-                first_value(alloc, a, rest)
+                let a = followed_by(Expected::Semicolon, a)?;
+                first_value(alloc, a)
             }
         }
     }
@@ -94,8 +93,8 @@ fn read_return<'a>(
     ensures { gives.Gives result (code.read_return (spec.expression source.now d) t ts.now) }
 {
     let a = read_maybe(alloc, source, d, Expected::Semicolon, ts)?;
-    let rest = past(Expected::Semicolon, a.rest)?;
-    return_value(alloc, t.place, a, rest)
+    let a = followed_by(Expected::Semicolon, a)?;
+    return_value(alloc, t.place, a)
 }
 
 fn read_ps<'a>(
@@ -108,11 +107,11 @@ fn read_ps<'a>(
 {
     let inner = past(Expected::OpenRound, ts)?;
     let a = read_name(alloc, source, inner)?;
-    let second = past(Expected::Comma, a.rest)?;
-    let b = read_name(alloc, source, second)?;
-    let behind_all = past(Expected::CloseRound, b.rest)?;
-    let rest = past(Expected::Semicolon, behind_all)?;
-    ps(alloc, t.place, a, b, rest)
+    let a = followed_by(Expected::Comma, a)?;
+    let b = read_name(alloc, source, a.rest)?;
+    let b = followed_by(Expected::CloseRound, b)?;
+    let b = followed_by(Expected::Semicolon, b)?;
+    ps(alloc, t.place, a, b)
 }
 
 fn read_psm<'a>(
@@ -127,11 +126,11 @@ fn read_psm<'a>(
 {
     let inner = past(Expected::OpenRound, ts)?;
     let a = read_name(alloc, source, inner)?;
-    let second = past(Expected::Comma, a.rest)?;
-    let b = place(alloc, source, d, second)?;
-    let behind_all = past(Expected::CloseRound, b.rest)?;
-    let rest = past(Expected::Semicolon, behind_all)?;
-    psm(alloc, t.place, a, b, rest)
+    let a = followed_by(Expected::Comma, a)?;
+    let b = place(alloc, source, d, a.rest)?;
+    let b = followed_by(Expected::CloseRound, b)?;
+    let b = followed_by(Expected::Semicolon, b)?;
+    psm(alloc, t.place, a, b)
 }
 
 fn read_print<'a>(
@@ -147,9 +146,9 @@ fn read_print<'a>(
     let inner = past(Expected::OpenRound, ts)?;
     let a = read_text(alloc, source, inner)?;
     let b = read_behind(alloc, source, d, a.rest)?;
-    let behind_all = past(Expected::CloseRound, b.rest)?;
-    let rest = past(Expected::Semicolon, behind_all)?;
-    print(alloc, t.place, a, b, rest)
+    let b = followed_by(Expected::CloseRound, b)?;
+    let b = followed_by(Expected::Semicolon, b)?;
+    print(alloc, t.place, a, b)
 }
 
 fn read_break<'a>(
@@ -214,8 +213,8 @@ fn read_value<'a>(
     ensures { gives.Gives result (code.read_value (spec.expression source.now d) ts.now) }
 {
     let a = expression(alloc, source, d, ts)?;
-    let rest = past(Expected::Semicolon, a.rest)?;
-    value(alloc, a, rest)
+    let a = followed_by(Expected::Semicolon, a)?;
+    value(alloc, a)
 }
 
 /// A statement that holds no other, by its first token. A declaration is none.
@@ -259,8 +258,8 @@ pub fn read_do_behind<'a>(
 {
     let behind_while = past(Expected::While, body.rest)?;
     let test = read_round(alloc, source, d, behind_while)?;
-    let rest = past(Expected::Semicolon, test.rest)?;
-    do_loop(alloc, t.place, body, test, rest)
+    let test = followed_by(Expected::Semicolon, test)?;
+    do_loop(alloc, t.place, body, test)
 }
 
 // How deep the first part of a `for` may nest, since it is a statement of its own.
@@ -284,10 +283,10 @@ pub fn read_for_head<'a>(
     let inner = past(Expected::OpenRound, ts)?;
     let first = read_first(alloc, source, depth_of_first(d), inner)?;
     let test = read_maybe(alloc, source, d, Expected::Semicolon, first.rest)?;
-    let behind_test = past(Expected::Semicolon, test.rest)?;
-    let third = read_maybe(alloc, source, d, Expected::CloseRound, behind_test)?;
-    let rest = past(Expected::CloseRound, third.rest)?;
-    Ok(for_parts(first, test, third, rest))
+    let test = followed_by(Expected::Semicolon, test)?;
+    let third = read_maybe(alloc, source, d, Expected::CloseRound, test.rest)?;
+    let third = followed_by(Expected::CloseRound, third)?;
+    Ok(for_parts(first, test, third))
 }
 
 // The last thread number of a `spawn`, up to and with the `{`.
@@ -301,9 +300,8 @@ fn read_last_thread<'a>(
     ensures { gives.Gives result (heads.last_thread (spec.expression source.now d) ts.now) }
 {
     let high = expression(alloc, source, d, ts)?;
-    let behind_all = past(Expected::CloseRound, high.rest)?;
-    let rest = past(Expected::OpenCurly, behind_all)?;
-    Ok(before(high, rest))
+    let high = followed_by(Expected::CloseRound, high)?;
+    followed_by(Expected::OpenCurly, high)
 }
 
 /// A `spawn` before the statements inside.
@@ -318,7 +316,7 @@ pub fn read_spawn_head<'a>(
 {
     let inner = past(Expected::OpenRound, ts)?;
     let low = expression(alloc, source, d, inner)?;
-    let second = past(Expected::Comma, low.rest)?;
-    let high = read_last_thread(alloc, source, d, second)?;
+    let low = followed_by(Expected::Comma, low)?;
+    let high = read_last_thread(alloc, source, d, low.rest)?;
     Ok(low_and_high(low, high))
 }

@@ -253,6 +253,3 @@ pub fn lex(alloc: Global, bytes: &[u8]) -> Result<Vec<Token>, LexRefusal>
     }
     Ok(out)
 }
-
-#[cfg(test)]
-mod tests;
