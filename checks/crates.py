@@ -15,6 +15,7 @@ import sys
 TOP = pathlib.Path(__file__).resolve().parent.parent
 LONGEST = 15
 KIT = "atomic_table anyhow byteorder clap indexmap itoa sqlite_items thiserror toml".split()
+FIRST = "# Each line: a crate, and those whose names its files use; a heading in front of each layer.\n"
 BEGINNING = """# Crates
 
 One crate is one layer, with one public contract for the layers above. What each one promises stands at the head of its
@@ -100,7 +101,7 @@ def main():
             stands = f"\n\nStands on {', '.join(f'`{it}`' for it in below)}." if below else ""
             page.append(f"### `{name}`\n\n" + "\n".join(head) + stands + "\n")
     made = {
-        TOP / "crates.txt": "# Each line: a crate, and those whose names its files use; a heading in front of each layer.\n".rstrip("\n") + "\n".join(table) + "\n",
+        TOP / "crates.txt": FIRST + "\n".join(table) + "\n",
         TOP / "docs/CRATES.md": "\n".join(page),
     }
     for file, text in made.items():

@@ -48,11 +48,7 @@ fn spawn_of(alloc: Global, block: Items<Stmt>) -> Result<Stmt, AllocError>
 }
 
 // `main() { spawn(0, 4) block }` with so many variables.
-fn program_with(
-    alloc: Global,
-    block: Items<Stmt>,
-    variables: u32,
-) -> Result<Program, AllocError>
+fn program_with(alloc: Global, block: Items<Stmt>, variables: u32) -> Result<Program, AllocError>
     ensures { IfOk result (λ p. IsSome (spawn_at p 0 0)) }
 {
     let spawn = spawn_of(alloc, block)?;
