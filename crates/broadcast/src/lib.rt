@@ -1,5 +1,6 @@
-//! The masks of spawns. A spawn hands its threads copies of the machine registers of its mask: of
-//! those that hold a virtual register which is live where the block begins.
+//! `masks` answers one mask for each spawn, in the order of the program, whose bits are exactly the machine
+//! registers that hold a register which is live where the block begins. Want of memory alone is free.
+//! `slots_have_no_masks`: where each register lives in a slot of its own, all masks are 0.
 #![tactic(auto)]
 
 mod positions;
@@ -8,6 +9,3 @@ mod spawns;
 
 pub use slots::slots_have_no_masks;
 pub use spawns::masks;
-
-#[cfg(test)]
-mod tests;

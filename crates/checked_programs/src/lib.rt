@@ -1,2 +1,2 @@
-//! Which typed programs are checked, and which keep to the limits, as definitions.
+//! Definitions: which programs are checked, and which keep to the limits, with worked examples.
 #![tactic(auto)]

@@ -1,4 +1,4 @@
-//! That a checked program has all that its quads ask of it.
+//! Law `checked_programs_have_quads`: a checked program within the limits has all that its quads ask of it.
 #![tactic(auto)]
 
 ghost use Rattle.checked_quads.specs.Law.{CheckedProgramsAreKnown, CheckedProgramsHaveWords};

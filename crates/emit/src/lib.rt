@@ -1,5 +1,5 @@
-//! The image of a quad program: its code, function by function and quad by quad, with each virtual
-//! register in a slot of the frame.
+//! From quads to the image. `emit` answers the stated image of a well-formed quad program whose registers live in
+//! slots of their own and whose masks are all 0, and it is valid. Want of memory alone is free.
 #![tactic(auto)]
 
 mod blocks;

@@ -1,6 +1,5 @@
-//! Which virtual registers of a function of quads are live at a position. Each register that some
-//! quad reads is taken by itself: the positions where it is live are marked by rounds over the
-//! quads, from the last to the first, until a round marks no more.
+//! `live_in` answers, rising, exactly the registers that some path from a position reads before it writes them;
+//! `live_positions` marks exactly the positions where a register is live. Want of memory alone is free.
 #![tactic(auto)]
 
 mod live;
@@ -9,6 +8,3 @@ mod operands;
 
 pub use live::live_in;
 pub use marking::live_positions;
-
-#[cfg(test)]
-mod tests;

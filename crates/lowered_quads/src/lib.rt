@@ -1,4 +1,5 @@
-//! To which quads a program is lowered, and that they are well formed.
+//! To which quads a program is lowered, as a definition. Law `lowered_programs_are_well_formed`: for a checked
+//! program within the limits they are well formed.
 #![tactic(auto)]
 
 ghost use Rattle.lowered_quads.specs.Law.{LoweredProgramsAreWellFormed};

@@ -1,5 +1,5 @@
 -- Code that is appended piece by piece, and jumps that are written once their targets are known.
-use Rattle.std.proofs.Common.{◌≡◌, sym, ◌∙◌, ap, subst, refl, arith, ℕ, suc, ◌+◌, ◌<◌, drop, drop-cons, get_or, Bool, if◌then◌else◌, List, [], ◌∷◌, ◌++◌, length, append-nil, append_assoc, length-append}
+use Rattle.std.proofs.Common.{◌≡◌, sym, ◌∙◌, ap, subst, refl, arith, ℕ, suc, ◌+◌, ◌<◌, drop, drop-cons, get_or, Bool, true, false, if◌then◌else◌, List, [], ◌∷◌, ◌++◌, length, append-nil, append_assoc, length-append}
 use Rattle.std.specs.Prelude.{slice_set}
 use Rattle.std.proofs.Math.Seq.{set-append_seam}
 use Rattle.std.proofs.lemmas.List.{length-map, map-append}
@@ -25,10 +25,7 @@ use Rattle.quad_code.specs.Functions.{outer_of}
 use Rattle.quad_code.specs.Expressions.{operand_of, held, reading, writing, access_of, step_operator, values_at, arguments_of}
 use Rattle.lowering.specs.declared.code.Placed.{Placed}
 use Rattle.source_meaning.specs.declared.tree.ExprKind.TheBlock.{hidden-the_row-Expr-1}
-use Rattle.lowering.specs.Emitted.{placed, Appends, kind_code, expression_code, spot_code, tested_code, side_code, values_code, arguments_code}
-
-abbrev pub at_line : Quad → (line : ℕ) → Placed
-at_line q line = record { quad = q; line = line }
+use Rattle.lowering.specs.Emitted.{placed, at_line, jump_unless, choice_closed, Appends, place_of, read_code, assigned_code, updated_code, stepped_code, call_code, kind_code, expression_code, spot_code, tested_code, side_code, values_code, arguments_code}
 
 pub placed-append : (a b : List Lined) → placed (a ++ b) ≡ placed a ++ placed b
 placed-append a b = map-append (λ (l : Lined). at_line l.quad l.line) a b
@@ -134,105 +131,91 @@ module _ (globals : List GlobalVar) (body : List Stmt) where
   unary r line op a o c0 c1 c2 h1 eo h2 =
       in_turn (expression_code globals body r a) (λ at. one line (quad.Unary op r (operand_of r a.kind))) c0 c1 c2 h1 (h2 ∙ ap (λ o. c1 ++ at_line (quad.Unary op r o) line ∷ []) eo)
 
-  pub assign : (r value line : ℕ) (p : Spot) (e : Expr) (o : Operand) (a : Access) (q : Quad) (c0 c1 c2 c3 c4 : List Placed) → value ≡ r + held p →
+  pub assign : (r value line : ℕ) (p : Spot) (e : Expr) (o : Operand) (c0 c1 c2 c3 : List Placed) → value ≡ r + held p →
       Appends (spot_code globals body r line p) c0 c1 → Appends (expression_code globals body value e) c1 c2 → o ≡ operand_of value e.kind →
-      a ≡ access_of (first_word globals) (words_of globals) (outer_of body) r p → q ≡ writing a o → c3 ≡ c2 ++ at_line q line ∷ [] → c4 ≡ c3 ++ at_line (quad.Copy r o) line ∷ [] →
-      Appends (kind_code globals body r line (expr.Assign p e)) c0 c4
+      Appends (λ at. assigned_code globals body r line p o) c2 c3 → Appends (kind_code globals body r line (expr.Assign p e)) c0 c3
   unfolding opened
-  assign r value line p e o a q c0 c1 c2 c3 c4 ev h1 h2 ho ha hq h3 h4 =
-      let to : Access = access_of (first_word globals) (words_of globals) (outer_of body) r p in
-      let last : List Lined = lined line (writing to (operand_of value e.kind)) ∷ one line (quad.Copy r (operand_of value e.kind)) in
-      let inner : Appends (λ at. code_then at (spot_code globals body r line p at) (λ at. code_then at (expression_code globals body value e at) (λ at.
-      lined line (writing to (operand_of value e.kind)) ∷ one line (quad.Copy r (operand_of value e.kind))))) c0 c4 =
-      in_turn (spot_code globals body r line p) (λ at. code_then at (expression_code globals body value e at) (λ at. last)) c0 c1 c4 h1
-      (in_turn (expression_code globals body value e) (λ at. last) c1 c2 c4 h2
-      (two c2 c3 c4 (at_line (writing to (operand_of value e.kind)) line) (at_line (quad.Copy r (operand_of value e.kind)) line)
-      (h3 ∙ ap (λ q. c2 ++ at_line q line ∷ []) (hq ∙ ap (λ a. writing a o) ha ∙ ap (writing to) ho))
-      (h4 ∙ ap (λ o. c3 ++ at_line (quad.Copy r o) line ∷ []) ho)))
+  assign r value line p e o c0 c1 c2 c3 ev h1 h2 ho h3 =
+      let last : Operand → List Lined = assigned_code globals body r line p in
+      let inner : Appends (λ at. code_then at (spot_code globals body r line p at) (λ at. code_then at (expression_code globals body value e at) (λ at. last (operand_of value e.kind)))) c0 c3 =
+      in_turn (spot_code globals body r line p) (λ at. code_then at (expression_code globals body value e at) (λ at. last (operand_of value e.kind))) c0 c1 c3 h1
+      (in_turn (expression_code globals body value e) (λ at. last (operand_of value e.kind)) c1 c2 c3 h2 (subst (λ o. Appends (λ at. last o) c2 c3) ho h3))
       in
-      subst (λ v. Appends (λ at. code_then at (spot_code globals body r line p at) (λ at. code_then at (expression_code globals body v e at) (λ at.
-      lined line (writing to (operand_of v e.kind)) ∷ one line (quad.Copy r (operand_of v e.kind))))) c0 c4) ev inner
+      subst (λ v. Appends (λ at. code_then at (spot_code globals body r line p at) (λ at. code_then at (expression_code globals body v e at) (λ at. last (operand_of v e.kind)))) c0 c3) ev inner
 
-  pub update : (r old value line : ℕ) (op : BinOp) (p : Spot) (e : Expr) (o : Operand) (a b : Access) (q w : Quad) (c0 c1 c2 c3 c4 c5 c6 : List Placed) → old ≡ r + held p → value ≡ old + 1 →
-      Appends (spot_code globals body r line p) c0 c1 → a ≡ access_of (first_word globals) (words_of globals) (outer_of body) r p → q ≡ reading old a → c2 ≡ c1 ++ at_line q line ∷ [] →
-      Appends (expression_code globals body value e) c2 c3 → o ≡ operand_of value e.kind → c4 ≡ c3 ++ at_line (quad.Binary op old (Reg old) o) line ∷ [] →
-      b ≡ access_of (first_word globals) (words_of globals) (outer_of body) r p → w ≡ writing b (Reg old) → c5 ≡ c4 ++ at_line w line ∷ [] → c6 ≡ c5 ++ at_line (quad.Copy r (Reg old)) line ∷ [] →
-      Appends (kind_code globals body r line (expr.Update op p e)) c0 c6
+  pub update : (r old value line : ℕ) (op : BinOp) (p : Spot) (e : Expr) (o : Operand) (c0 c1 c2 c3 c4 : List Placed) → old ≡ r + held p → value ≡ old + 1 →
+      Appends (spot_code globals body r line p) c0 c1 → Appends (λ at. read_code globals body r line p) c1 c2 →
+      Appends (expression_code globals body value e) c2 c3 → o ≡ operand_of value e.kind → Appends (λ at. updated_code globals body r old line op p o) c3 c4 →
+      Appends (kind_code globals body r line (expr.Update op p e)) c0 c4
   unfolding opened
-  update r old value line op p e o a b q w c0 c1 c2 c3 c4 c5 c6 eold ev h1 ha hq h2 h3 ho h4 hb hw h5 h6 =
-      let to : Access = access_of (first_word globals) (words_of globals) (outer_of body) r p in
-      let h3' : Appends (expression_code globals body (old + 1) e) c2 c3 = subst (λ v. Appends (expression_code globals body v e) c2 c3) ev h3 in
-      let ho' : o ≡ operand_of (old + 1) e.kind = ho ∙ ap (λ v. operand_of v e.kind) ev in
-      let last : List Lined = lined line (quad.Binary op old (Reg old) (operand_of (old + 1) e.kind)) ∷ lined line (writing to (Reg old)) ∷ one line (quad.Copy r (Reg old)) in
-      let tail : ℕ → List Lined = λ at. code_then at (expression_code globals body (old + 1) e at) (λ at. last) in
-      let inner : Appends (λ at. code_then at (spot_code globals body r line p at) (λ at. code_then at (one line (reading old to)) (λ at. code_then at (expression_code globals body (old + 1) e at) (λ at.
-      lined line (quad.Binary op old (Reg old) (operand_of (old + 1) e.kind)) ∷ lined line (writing to (Reg old)) ∷ one line (quad.Copy r (Reg old)))))) c0 c6 =
-      in_turn (spot_code globals body r line p) (λ at. code_then at (one line (reading old to)) tail) c0 c1 c6 h1
-      (in_turn (λ at. one line (reading old to)) tail c1 c2 c6 (h2 ∙ ap (λ q. c1 ++ at_line q line ∷ []) (hq ∙ ap (reading old) ha))
-      (in_turn (expression_code globals body (old + 1) e) (λ at. last) c2 c3 c6 h3'
-      (three c3 c4 c5 c6 (at_line (quad.Binary op old (Reg old) (operand_of (old + 1) e.kind)) line) (at_line (writing to (Reg old)) line) (at_line (quad.Copy r (Reg old)) line)
-      (h4 ∙ ap (λ o. c3 ++ at_line (quad.Binary op old (Reg old) o) line ∷ []) ho')
-      (h5 ∙ ap (λ w. c4 ++ at_line w line ∷ []) (hw ∙ ap (λ b. writing b (Reg old)) hb)) h6)))
+  update r old value line op p e o c0 c1 c2 c3 c4 eold ev h1 h2 h3 ho h4 =
+      let held_in : ℕ = r + held p in
+      let ev' : value ≡ held_in + 1 = ev ∙ ap (λ n. n + 1) eold in
+      let last : List Lined = updated_code globals body r held_in line op p (operand_of (held_in + 1) e.kind) in
+      let tail : ℕ → List Lined = λ at. code_then at (expression_code globals body (held_in + 1) e at) (λ at. last) in
+      in_turn (spot_code globals body r line p) (λ at. code_then at (read_code globals body r line p) tail) c0 c1 c4 h1
+      (in_turn (λ at. read_code globals body r line p) tail c1 c2 c4 h2
+      (in_turn (expression_code globals body (held_in + 1) e) (λ at. last) c2 c3 c4 (subst (λ v. Appends (expression_code globals body v e) c2 c3) ev' h3)
+      (subst (λ o. Appends (λ at. updated_code globals body r held_in line op p o) c3 c4) (ho ∙ ap (λ v. operand_of v e.kind) ev')
+      (subst (λ old. Appends (λ at. updated_code globals body r old line op p o) c3 c4) eold h4))))
+
+  pub step : (r line : ℕ) (p : Spot) (up after : Bool) (c0 c1 c2 : List Placed) → Appends (spot_code globals body r line p) c0 c1 → Appends (λ at. stepped_code globals body r line p up after) c1 c2 →
+      Appends (kind_code globals body r line (expr.Step p up after)) c0 c2
+  unfolding opened
+  step r line p up after c0 c1 c2 h1 h2 = in_turn (spot_code globals body r line p) (λ at. stepped_code globals body r line p up after) c0 c1 c2 h1 h2
+
+  -- what stands behind the index of a step
+  pub stepped : (r old new value line : ℕ) (p : Spot) (up after : Bool) (op : BinOp) (a b : Access) (q w : Quad) (c1 c2 c3 c4 c5 : List Placed) → old ≡ r + held p → new ≡ old + 1 →
+      a ≡ place_of globals body r p → q ≡ reading old a → c2 ≡ c1 ++ at_line q line ∷ [] → op ≡ step_operator up → c3 ≡ c2 ++ at_line (quad.Binary op new (Reg old) (Literal 1)) line ∷ [] →
+      b ≡ place_of globals body r p → w ≡ writing b (Reg new) → c4 ≡ c3 ++ at_line w line ∷ [] → value ≡ (if after then old else new) → c5 ≡ c4 ++ at_line (quad.Copy r (Reg value)) line ∷ [] →
+      Appends (λ at. stepped_code globals body r line p up after) c1 c5
+  stepped r old new value line p up after op a b q w c1 c2 c3 c4 c5 eold enew ha hq h2 hop h3 hb hw h4 hv h5 =
+      let to : Access = place_of globals body r p in
+      let code : (old : ℕ) → List Placed = λ old.
+      at_line (reading old to) line ∷ at_line (quad.Binary (step_operator up) (old + 1) (Reg old) (Literal 1)) line ∷ at_line (writing to (Reg (old + 1))) line ∷ at_line (quad.Copy r (Reg (if after then old else old + 1))) line ∷ []
       in
-      subst (λ old. Appends (λ at. code_then at (spot_code globals body r line p at) (λ at. code_then at (one line (reading old to)) (λ at. code_then at (expression_code globals body (old + 1) e at) (λ at.
-      lined line (quad.Binary op old (Reg old) (operand_of (old + 1) e.kind)) ∷ lined line (writing to (Reg old)) ∷ one line (quad.Copy r (Reg old)))))) c0 c6) eold inner
-
-  pub step : (r old new value line : ℕ) (up after : Bool) (op : BinOp) (p : Spot) (a b : Access) (q w : Quad) (c0 c1 c2 c3 c4 c5 : List Placed) → old ≡ r + held p → new ≡ old + 1 →
-      Appends (spot_code globals body r line p) c0 c1 → a ≡ access_of (first_word globals) (words_of globals) (outer_of body) r p → q ≡ reading old a → c2 ≡ c1 ++ at_line q line ∷ [] →
-      op ≡ step_operator up → c3 ≡ c2 ++ at_line (quad.Binary op new (Reg old) (Literal 1)) line ∷ [] →
-      b ≡ access_of (first_word globals) (words_of globals) (outer_of body) r p → w ≡ writing b (Reg new) → c4 ≡ c3 ++ at_line w line ∷ [] →
-      value ≡ (if after then old else new) → c5 ≡ c4 ++ at_line (quad.Copy r (Reg value)) line ∷ [] →
-      Appends (kind_code globals body r line (expr.Step p up after)) c0 c5
-  unfolding opened
-  step r old new value line up after op p a b q w c0 c1 c2 c3 c4 c5 eold enew h1 ha hq h2 hop h3 hb hw h4 hv h5 =
-      let to : Access = access_of (first_word globals) (words_of globals) (outer_of body) r p in
-      let last : List Lined = lined line (reading old to) ∷ lined line (quad.Binary (step_operator up) (old + 1) (Reg old) (Literal 1)) ∷ lined line (writing to (Reg (old + 1))) ∷ one line (quad.Copy r (Reg (if after then old else old + 1))) in
-      let inner : Appends (λ at. code_then at (spot_code globals body r line p at) (λ at.
-      lined line (reading old to) ∷ lined line (quad.Binary (step_operator up) (old + 1) (Reg old) (Literal 1)) ∷ lined line (writing to (Reg (old + 1))) ∷ one line (quad.Copy r (Reg (if after then old else old + 1))))) c0 c5 =
-      in_turn (spot_code globals body r line p) (λ at. last) c0 c1 c5 h1
-      (four c1 c2 c3 c4 c5 (at_line (reading old to) line) (at_line (quad.Binary (step_operator up) (old + 1) (Reg old) (Literal 1)) line) (at_line (writing to (Reg (old + 1))) line) (at_line (quad.Copy r (Reg (if after then old else old + 1))) line)
+      let inner : c5 ≡ c1 ++ code old =
+      four c1 c2 c3 c4 c5 (at_line (reading old to) line) (at_line (quad.Binary (step_operator up) (old + 1) (Reg old) (Literal 1)) line) (at_line (writing to (Reg (old + 1))) line) (at_line (quad.Copy r (Reg (if after then old else old + 1))) line)
       (h2 ∙ ap (λ q. c1 ++ at_line q line ∷ []) (hq ∙ ap (reading old) ha))
       (h3 ∙ ap (λ op. c2 ++ at_line (quad.Binary op new (Reg old) (Literal 1)) line ∷ []) hop ∙ ap (λ new. c2 ++ at_line (quad.Binary (step_operator up) new (Reg old) (Literal 1)) line ∷ []) enew)
       (h4 ∙ ap (λ w. c3 ++ at_line w line ∷ []) (hw ∙ ap (λ b. writing b (Reg new)) hb ∙ ap (λ new. writing to (Reg new)) enew))
-      (h5 ∙ ap (λ v. c4 ++ at_line (quad.Copy r (Reg v)) line ∷ []) (hv ∙ ap (λ new. if after then old else new) enew)))
+      (h5 ∙ ap (λ v. c4 ++ at_line (quad.Copy r (Reg v)) line ∷ []) (hv ∙ ap (λ new. if after then old else new) enew))
       in
-      subst (λ old. Appends (λ at. code_then at (spot_code globals body r line p at) (λ at.
-      lined line (reading old to) ∷ lined line (quad.Binary (step_operator up) (old + 1) (Reg old) (Literal 1)) ∷ lined line (writing to (Reg (old + 1))) ∷ one line (quad.Copy r (Reg (if after then old else old + 1))))) c0 c5) eold inner
+      inner ∙ ap (λ old. c1 ++ code old) eold
 
   -- a choice behind its test
-  pub choice_behind : (make : Operand → ℕ → Quad) (r line : ℕ) (a : Expr) (o : Operand) (first second : ℕ → List Lined) (c0 c1 c2 c3 c4 c5 c6 : List Placed) (x y : Placed) (n1 n2 m : ℕ) →
-      Appends (expression_code globals body r a) c0 c1 → n1 ≡ length c1 → c2 ≡ c1 ++ x ∷ [] → Appends first c2 c3 → n2 ≡ length c3 → c4 ≡ c3 ++ y ∷ [] → Appends second c4 c5 → o ≡ operand_of r a.kind → m ≡ n2 + 1 →
-      c6 ≡ slice_set (slice_set c5 n1 (at_line (make o m) line)) n2 (at_line (quad.Jump (length c5)) line) →
+  pub choice_behind : (make : Operand → ℕ → Quad) (r line : ℕ) (a : Expr) (o : Operand) (first second : ℕ → List Lined) (c0 c1 c2 c3 c4 c5 c6 : List Placed) (x y : Placed) (n1 n2 : ℕ) →
+      Appends (expression_code globals body r a) c0 c1 → n1 ≡ length c1 → c2 ≡ c1 ++ x ∷ [] → Appends first c2 c3 → n2 ≡ length c3 → c4 ≡ c3 ++ y ∷ [] → Appends second c4 c5 → o ≡ operand_of r a.kind →
+      c6 ≡ choice_closed c5 n1 (make o) n2 line →
       Appends (λ at. code_then at (expression_code globals body r a at) (λ at. choice line at (make (operand_of r a.kind)) first second)) c0 c6
-  choice_behind make r line a o first second c0 c1 c2 c3 c4 c5 c6 x y n1 n2 m h1 m1 e2 h3 m2 e4 h5 ho em e6 =
+  choice_behind make r line a o first second c0 c1 c2 c3 c4 c5 c6 x y n1 n2 h1 m1 e2 h3 m2 e4 h5 ho e6 =
       in_turn (expression_code globals body r a) (λ at. choice line at (make (operand_of r a.kind)) first second) c0 c1 c6 h1
       (closed line (make (operand_of r a.kind)) first second c1 c2 c3 c4 c5 c6 x y n1 n2 m1 e2 h3 m2 e4 h5
-      (e6 ∙ ap (λ m. slice_set (slice_set c5 n1 (at_line (make o m) line)) n2 (at_line (quad.Jump (length c5)) line)) em ∙
-      ap (λ o. slice_set (slice_set c5 n1 (at_line (make o (n2 + 1)) line)) n2 (at_line (quad.Jump (length c5)) line)) ho))
+      (e6 ∙ ap (λ o. choice_closed c5 n1 (make o) n2 line) ho))
 
-  pub both : (r line : ℕ) (a b : Expr) (o : Operand) (c0 c1 c2 c3 c4 c5 c6 : List Placed) (x y : Placed) (n1 n2 m : ℕ) →
+  pub both : (r line : ℕ) (a b : Expr) (o : Operand) (c0 c1 c2 c3 c4 c5 c6 : List Placed) (x y : Placed) (n1 n2 : ℕ) →
       Appends (expression_code globals body r a) c0 c1 → n1 ≡ length c1 → c2 ≡ c1 ++ x ∷ [] → Appends (tested_code globals body r line b) c2 c3 → n2 ≡ length c3 → c4 ≡ c3 ++ y ∷ [] →
-      c5 ≡ c4 ++ at_line (quad.Copy r (Literal 0)) line ∷ [] → o ≡ operand_of r a.kind → m ≡ n2 + 1 →
-      c6 ≡ slice_set (slice_set c5 n1 (at_line (quad.IfZero o m) line)) n2 (at_line (quad.Jump (length c5)) line) → Appends (kind_code globals body r line (expr.Both a b)) c0 c6
+      c5 ≡ c4 ++ at_line (quad.Copy r (Literal 0)) line ∷ [] → o ≡ operand_of r a.kind →
+      c6 ≡ choice_closed c5 n1 (jump_unless true o) n2 line → Appends (kind_code globals body r line (expr.Both a b)) c0 c6
   unfolding opened
-  both r line a b o c0 c1 c2 c3 c4 c5 c6 x y n1 n2 m h1 m1 e2 h3 m2 e4 h5 ho em e6 =
-      choice_behind quad.IfZero r line a o (tested_code globals body r line b) (λ at. one line (quad.Copy r (Literal 0))) c0 c1 c2 c3 c4 c5 c6 x y n1 n2 m h1 m1 e2 h3 m2 e4 h5 ho em e6
+  both r line a b o c0 c1 c2 c3 c4 c5 c6 x y n1 n2 h1 m1 e2 h3 m2 e4 h5 ho e6 =
+      choice_behind (jump_unless true) r line a o (tested_code globals body r line b) (λ at. one line (quad.Copy r (Literal 0))) c0 c1 c2 c3 c4 c5 c6 x y n1 n2 h1 m1 e2 h3 m2 e4 h5 ho e6
 
-  pub either : (r line : ℕ) (a b : Expr) (o : Operand) (c0 c1 c2 c3 c4 c5 c6 : List Placed) (x y : Placed) (n1 n2 m : ℕ) →
+  pub either : (r line : ℕ) (a b : Expr) (o : Operand) (c0 c1 c2 c3 c4 c5 c6 : List Placed) (x y : Placed) (n1 n2 : ℕ) →
       Appends (expression_code globals body r a) c0 c1 → n1 ≡ length c1 → c2 ≡ c1 ++ x ∷ [] → Appends (tested_code globals body r line b) c2 c3 → n2 ≡ length c3 → c4 ≡ c3 ++ y ∷ [] →
-      c5 ≡ c4 ++ at_line (quad.Copy r (Literal 1)) line ∷ [] → o ≡ operand_of r a.kind → m ≡ n2 + 1 →
-      c6 ≡ slice_set (slice_set c5 n1 (at_line (quad.IfNot o m) line)) n2 (at_line (quad.Jump (length c5)) line) → Appends (kind_code globals body r line (expr.Either a b)) c0 c6
+      c5 ≡ c4 ++ at_line (quad.Copy r (Literal 1)) line ∷ [] → o ≡ operand_of r a.kind →
+      c6 ≡ choice_closed c5 n1 (jump_unless false o) n2 line → Appends (kind_code globals body r line (expr.Either a b)) c0 c6
   unfolding opened
-  either r line a b o c0 c1 c2 c3 c4 c5 c6 x y n1 n2 m h1 m1 e2 h3 m2 e4 h5 ho em e6 =
-      choice_behind quad.IfNot r line a o (tested_code globals body r line b) (λ at. one line (quad.Copy r (Literal 1))) c0 c1 c2 c3 c4 c5 c6 x y n1 n2 m h1 m1 e2 h3 m2 e4 h5 ho em e6
+  either r line a b o c0 c1 c2 c3 c4 c5 c6 x y n1 n2 h1 m1 e2 h3 m2 e4 h5 ho e6 =
+      choice_behind (jump_unless false) r line a o (tested_code globals body r line b) (λ at. one line (quad.Copy r (Literal 1))) c0 c1 c2 c3 c4 c5 c6 x y n1 n2 h1 m1 e2 h3 m2 e4 h5 ho e6
 
-  pub choose : (r line : ℕ) (t a b : Expr) (o : Operand) (c0 c1 c2 c3 c4 c5 c6 : List Placed) (x y : Placed) (n1 n2 m : ℕ) →
+  pub choose : (r line : ℕ) (t a b : Expr) (o : Operand) (c0 c1 c2 c3 c4 c5 c6 : List Placed) (x y : Placed) (n1 n2 : ℕ) →
       Appends (expression_code globals body r t) c0 c1 → n1 ≡ length c1 → c2 ≡ c1 ++ x ∷ [] → Appends (side_code globals body r line a) c2 c3 → n2 ≡ length c3 → c4 ≡ c3 ++ y ∷ [] →
-      Appends (side_code globals body r line b) c4 c5 → o ≡ operand_of r t.kind → m ≡ n2 + 1 →
-      c6 ≡ slice_set (slice_set c5 n1 (at_line (quad.IfZero o m) line)) n2 (at_line (quad.Jump (length c5)) line) → Appends (kind_code globals body r line (expr.Choose t a b)) c0 c6
+      Appends (side_code globals body r line b) c4 c5 → o ≡ operand_of r t.kind →
+      c6 ≡ choice_closed c5 n1 (jump_unless true o) n2 line → Appends (kind_code globals body r line (expr.Choose t a b)) c0 c6
   unfolding opened
-  choose r line t a b o c0 c1 c2 c3 c4 c5 c6 x y n1 n2 m h1 m1 e2 h3 m2 e4 h5 ho em e6 =
-      choice_behind quad.IfZero r line t o (side_code globals body r line a) (side_code globals body r line b) c0 c1 c2 c3 c4 c5 c6 x y n1 n2 m h1 m1 e2 h3 m2 e4 h5 ho em e6
+  choose r line t a b o c0 c1 c2 c3 c4 c5 c6 x y n1 n2 h1 m1 e2 h3 m2 e4 h5 ho e6 =
+      choice_behind (jump_unless true) r line t o (side_code globals body r line a) (side_code globals body r line b) c0 c1 c2 c3 c4 c5 c6 x y n1 n2 h1 m1 e2 h3 m2 e4 h5 ho e6
 
   pub tested : (r line : ℕ) (e : Expr) (o : Operand) (c0 c1 c2 : List Placed) → Appends (expression_code globals body r e) c0 c1 → o ≡ operand_of r e.kind →
       c2 ≡ c1 ++ at_line (quad.Binary Ne r o (Literal 0)) line ∷ [] → Appends (tested_code globals body r line e) c0 c2
@@ -267,15 +250,12 @@ module _ (globals : List GlobalVar) (body : List Stmt) where
   arguments_row [] line k r = refl
   arguments_row (e ∷ values) line k r = ap (λ c. lined line (quad.Argument k (operand_of r e.kind)) ∷ c) (arguments_row values line (k + 1) (r + 1))
 
-  pub call : (r line f : ℕ) (values : List Expr) (c0 c1 c2 c3 c4 : List Placed) → Appends (values_code globals body r values) c0 c1 → Appends (arguments_code line 0 r values) c1 c2 →
-      c3 ≡ c2 ++ at_line (quad.Call f) line ∷ [] → c4 ≡ c3 ++ at_line (quad.Result r) line ∷ [] → Appends (kind_code globals body r line (expr.Call f values)) c0 c4
+  pub call : (r line f : ℕ) (values : List Expr) (c0 c1 c2 : List Placed) → Appends (values_code globals body r values) c0 c1 → Appends (call_code line r f values) c1 c2 →
+      Appends (kind_code globals body r line (expr.Call f values)) c0 c2
   unfolding opened
-  call r line f values c0 c1 c2 c3 c4 h1 h2 h3 h4 =
+  call r line f values c0 c1 c2 h1 h2 =
       let last : List Lined = lined line (quad.Call f) ∷ one line (quad.Result r) in
-      let behind : Appends (λ at. code_then at (arguments_code line 0 r values 0) (λ at. last)) c1 c4 =
-      in_turn (λ at. arguments_code line 0 r values 0) (λ at. last) c1 c2 c4 h2 (two c2 c3 c4 (at_line (quad.Call f) line) (at_line (quad.Result r) line) h3 h4)
-      in
-      in_turn (values_code globals body r values) (λ at. code_then at (arguments_code line 0 r values 0) (λ at. last)) c0 c1 c4 h1 behind ∙
+      in_turn (values_code globals body r values) (λ at. code_then at (arguments_code line 0 r values 0) (λ at. last)) c0 c1 c2 h1 h2 ∙
       ap (λ (a : List Lined). c0 ++ placed (code_then (length c0) a (λ at. code_then at (arguments_code line 0 r values 0) (λ at. last)))) (sym (values_row values (length c0) r)) ∙
       ap (λ (b : List Lined). c0 ++ placed (code_then (length c0) (values_at (first_word globals) (words_of globals) (outer_of body) (length c0) r (hidden-the_row-Expr-1 values)) (λ at. code_then at b (λ at. last)))) (sym (arguments_row values line 0 r))
 
@@ -289,6 +269,12 @@ pub arguments_more : (line k r m s : ℕ) (e : Expr) (o : Operand) (rest : List 
 arguments_more line k r m s e o rest c0 c1 c2 ho h1 em es h2 =
     let h2' : Appends (arguments_code line (k + 1) (r + 1) rest) c1 c2 = subst (λ s. Appends (arguments_code line (k + 1) s rest) c1 c2) es (subst (λ m. Appends (arguments_code line m s rest) c1 c2) em h2) in
     in_turn (λ at. one line (quad.Argument k (operand_of r e.kind))) (arguments_code line (k + 1) (r + 1) rest) c0 c1 c2 (h1 ∙ ap (λ o. c0 ++ at_line (quad.Argument k o) line ∷ []) ho) h2'
+
+-- what stands behind the values of a call
+pub called : (r line f : ℕ) (values : List Expr) (c0 c1 c2 c3 : List Placed) → Appends (arguments_code line 0 r values) c0 c1 → c2 ≡ c1 ++ at_line (quad.Call f) line ∷ [] →
+    c3 ≡ c2 ++ at_line (quad.Result r) line ∷ [] → Appends (call_code line r f values) c0 c3
+called r line f values c0 c1 c2 c3 h1 h2 h3 =
+    in_turn (arguments_code line 0 r values) (λ at. lined line (quad.Call f) ∷ one line (quad.Result r)) c0 c1 c3 h1 (two c1 c2 c3 (at_line (quad.Call f) line) (at_line (quad.Result r) line) h2 h3)
 
 -- ---- loops
 

@@ -1,8 +1,7 @@
 -- Each kind of statement that has others inside it, a print, and a prefix-sum.
-use Rattle.std.proofs.Common.{◌≡◌, sym, ◌∙◌, ap, subst, refl, ℕ, ◌+◌, List, [], ◌∷◌, ◌++◌, length, Option, Some, None, append_assoc}
+use Rattle.std.proofs.Common.{◌≡◌, sym, ◌∙◌, ap, subst, refl, ℕ, true, ◌+◌, List, [], ◌∷◌, ◌++◌, length, Option, Some, None, append_assoc}
 use Rattle.std.specs.Prelude.{slice_set}
 use Rattle.source_meaning.specs.declared.tree.Expr.{Expr}
-use Rattle.source_meaning.specs.declared.tree.Spot.{Spot}
 use Rattle.source_meaning.specs.declared.tree.Stmt.{Stmt}
 use Rattle.source_meaning.specs.declared.tree.StmtKind.{StmtKind}
 use Rattle.source_meaning.specs.declared.tree.StmtKind.TheVariants as stmt
@@ -11,21 +10,18 @@ use Rattle.source_meaning.specs.Layout.{first_word, words_of}
 use Rattle.source_meaning.specs.Code.{all_spawns}
 use Rattle.source_meaning.specs.Opened.{opened}
 use Rattle.xmt_quads.specs.declared.code.Operand.{Operand}
-use Rattle.xmt_quads.specs.declared.code.Operand.TheVariants.{Reg}
-use Rattle.xmt_quads.specs.declared.code.Quad.{Quad}
 use Rattle.xmt_quads.specs.declared.code.Quad.TheVariants as quad
-use Rattle.quad_code.specs.declared.Access.{Access}
 use Rattle.quad_code.specs.Lined.{Prints, Lined, lined, one, code_then, choice, loop_code, spawn_code}
 use Rattle.quad_code.specs.Rows.{row_of, rows_of}
 use Rattle.quad_code.specs.Functions.{outer_of}
-use Rattle.quad_code.specs.Expressions.{operand_of, held, reading, writing, adding, access_of, arguments_of}
+use Rattle.quad_code.specs.Expressions.{operand_of, arguments_of}
 use Rattle.quad_code.specs.Statements.{Counts, behind_all, in_spawn, all_prints, option_operand, sequence_at}
 use Rattle.quad_code.specs.Whole.{texts_in, all_texts}
 use Rattle.lowering.specs.declared.code.Placed.{Placed}
 use Rattle.lowering.specs.declared.loops.Exits.{Exits}
-use Rattle.lowering.specs.Emitted.{placed, Appends, expression_code, spot_code, values_code, arguments_code}
-use Rattle.lowering.specs.Stated.{Emits, loop_head, option_code, sum_code, print_code, statement_code, sequence_code, EmitsStatement, EmitsSequence, EmitsOther}
-use Rattle.lowering.proofs.Appends.{at_line, in_turn, nothing, choice_behind}
+use Rattle.lowering.specs.Emitted.{at_line, jump_unless, choice_closed, with_code, placed, Appends, expression_code, values_code, arguments_code}
+use Rattle.lowering.specs.Stated.{Emits, loop_head, bounds_code, option_code, print_code, statement_code, sequence_code, EmitsStatement, EmitsSequence, EmitsOther}
+use Rattle.lowering.proofs.Appends.{in_turn, nothing, choice_behind}
 use Rattle.lowering.proofs.Rings.{looped, untested}
 use Rattle.lowering.proofs.Sequels.{AnyRow, rows_same, all_counted, behind_counted}
 
@@ -58,35 +54,35 @@ module _ (globals : List GlobalVar) (body : List Stmt) (variables : ℕ) where
 
   -- ---- a choice
 
-  decided : (exits : Exits) (line : ℕ) (test : Expr) (a b : List Stmt) (o : Operand) (c0 c1 c2 c3 c4 c5 c6 : List Placed) (x y : Placed) (n1 n2 m : ℕ) (t0 t1 t2 : List (List ℕ)) →
+  decided : (exits : Exits) (line : ℕ) (test : Expr) (a b : List Stmt) (o : Operand) (c0 c1 c2 c3 c4 c5 c6 : List Placed) (x y : Placed) (n1 n2 : ℕ) (t0 t1 t2 : List (List ℕ)) →
       Appends (expression_code globals body variables test) c0 c1 → n1 ≡ length c1 → c2 ≡ c1 ++ x ∷ [] → EmitsSequence globals body variables exits a c2 c3 t0 t1 → n2 ≡ length c3 → c4 ≡ c3 ++ y ∷ [] →
-      EmitsSequence globals body variables exits b c4 c5 t1 t2 → o ≡ operand_of variables test.kind → m ≡ n2 + 1 →
-      c6 ≡ slice_set (slice_set c5 n1 (at_line (quad.IfZero o m) line)) n2 (at_line (quad.Jump (length c5)) line) →
+      EmitsSequence globals body variables exits b c4 c5 t1 t2 → o ≡ operand_of variables test.kind →
+      c6 ≡ choice_closed c5 n1 (jump_unless true o) n2 line →
       Emits (λ n at. code_then at (expression_code globals body variables test at) (λ at.
       choice line at (quad.IfZero (operand_of variables test.kind)) (sequence_code globals body variables exits a n) (sequence_code globals body variables exits b (behind_all n (rows_of a)))))
       (all_texts (rows_of a) ++ all_texts (rows_of b)) c0 c6 t0 t2
-  decided exits line test a b o c0 c1 c2 c3 c4 c5 c6 x y n1 n2 m t0 t1 t2 h1 m1 e2 h3 m2 e4 h5 ho em e6 =
+  decided exits line test a b o c0 c1 c2 c3 c4 c5 c6 x y n1 n2 t0 t1 t2 h1 m1 e2 h3 m2 e4 h5 ho e6 =
       let count : length t1 ≡ length t0 + all_prints (rows_of a) = behind_counted t0 t1 (all_texts (rows_of a)) (all_prints (rows_of a)) (all_counted (rows_of a)) h3.printed in
       record {
         appended = λ spawned.
-            choice_behind globals body quad.IfZero variables line test o (sequence_code globals body variables exits a (record { spawned = spawned; printed = length t0 }))
+            choice_behind globals body (jump_unless true) variables line test o (sequence_code globals body variables exits a (record { spawned = spawned; printed = length t0 }))
             (sequence_code globals body variables exits b (record { spawned = spawned + all_spawns (rows_of a); printed = length t0 + all_prints (rows_of a) }))
-            c0 c1 c2 c3 c4 c5 c6 x y n1 n2 m h1 m1 e2 (h3.appended spawned) m2 e4
+            c0 c1 c2 c3 c4 c5 c6 x y n1 n2 h1 m1 e2 (h3.appended spawned) m2 e4
             (subst (λ n. Appends (sequence_code globals body variables exits b (record { spawned = spawned + all_spawns (rows_of a); printed = n })) c4 c5) count (h5.appended (spawned + all_spawns (rows_of a))))
-            ho em e6;
+            ho e6;
         printed = h5.printed ∙ ap (λ t. t ++ all_texts (rows_of b)) h3.printed ∙ append_assoc t0 (all_texts (rows_of a)) (all_texts (rows_of b));
       }
 
-  pub choice_of : (exits : Exits) (line : ℕ) (test : Expr) (s : Stmt) (other : Option Stmt) (o : Operand) (c0 c1 c2 c3 c4 c5 c6 : List Placed) (x y : Placed) (n1 n2 m : ℕ) (t0 t1 t2 : List (List ℕ)) →
+  pub choice_of : (exits : Exits) (line : ℕ) (test : Expr) (s : Stmt) (other : Option Stmt) (o : Operand) (c0 c1 c2 c3 c4 c5 c6 : List Placed) (x y : Placed) (n1 n2 : ℕ) (t0 t1 t2 : List (List ℕ)) →
       Appends (expression_code globals body variables test) c0 c1 → n1 ≡ length c1 → c2 ≡ c1 ++ x ∷ [] → EmitsSequence globals body variables exits (s ∷ []) c2 c3 t0 t1 → n2 ≡ length c3 → c4 ≡ c3 ++ y ∷ [] →
-      EmitsOther globals body variables exits other c4 c5 t1 t2 → o ≡ operand_of variables test.kind → m ≡ n2 + 1 →
-      c6 ≡ slice_set (slice_set c5 n1 (at_line (quad.IfZero o m) line)) n2 (at_line (quad.Jump (length c5)) line) →
+      EmitsOther globals body variables exits other c4 c5 t1 t2 → o ≡ operand_of variables test.kind →
+      c6 ≡ choice_closed c5 n1 (jump_unless true o) n2 line →
       Emits (statement_code globals body variables exits line (stmt.If test s other)) (texts_in (stmt.If test s other)) c0 c6 t0 t2
   unfolding opened
-  choice_of exits line test s None o c0 c1 c2 c3 c4 c5 c6 x y n1 n2 m t0 t1 t2 h1 m1 e2 h3 m2 e4 h5 ho em e6 =
-      decided exits line test (s ∷ []) [] o c0 c1 c2 c3 c4 c5 c6 x y n1 n2 m t0 t1 t2 h1 m1 e2 h3 m2 e4 h5 ho em e6
-  choice_of exits line test s (Some e) o c0 c1 c2 c3 c4 c5 c6 x y n1 n2 m t0 t1 t2 h1 m1 e2 h3 m2 e4 h5 ho em e6 =
-      decided exits line test (s ∷ []) (e ∷ []) o c0 c1 c2 c3 c4 c5 c6 x y n1 n2 m t0 t1 t2 h1 m1 e2 h3 m2 e4 h5 ho em e6
+  choice_of exits line test s None o c0 c1 c2 c3 c4 c5 c6 x y n1 n2 t0 t1 t2 h1 m1 e2 h3 m2 e4 h5 ho e6 =
+      decided exits line test (s ∷ []) [] o c0 c1 c2 c3 c4 c5 c6 x y n1 n2 t0 t1 t2 h1 m1 e2 h3 m2 e4 h5 ho e6
+  choice_of exits line test s (Some e) o c0 c1 c2 c3 c4 c5 c6 x y n1 n2 t0 t1 t2 h1 m1 e2 h3 m2 e4 h5 ho e6 =
+      decided exits line test (s ∷ []) (e ∷ []) o c0 c1 c2 c3 c4 c5 c6 x y n1 n2 t0 t1 t2 h1 m1 e2 h3 m2 e4 h5 ho e6
 
   -- ---- loops
 
@@ -148,30 +144,28 @@ module _ (globals : List GlobalVar) (body : List Stmt) (variables : ℕ) where
 
   -- ---- a spawn
 
-  pub spawn_of : (exits : Exits) (line second : ℕ) (low high : Expr) (list : List Stmt) (lo hi : Operand) (c0 c1 c2 c3 c4 c5 : List Placed) (t0 t1 : List (List ℕ)) → second ≡ variables + 1 →
-      Appends (expression_code globals body variables low) c0 c1 → Appends (expression_code globals body second high) c1 c2 → lo ≡ operand_of variables low.kind → hi ≡ operand_of second high.kind →
-      c3 ≡ c2 ++ at_line (quad.Spawn lo hi) line ∷ [] → EmitsSequence globals body variables exits list c3 c4 t0 t1 → c5 ≡ c4 ++ at_line quad.Join line ∷ [] →
-      Emits (statement_code globals body variables exits line (stmt.Spawn low high list)) (texts_in (stmt.Spawn low high list)) c0 c5 t0 t1
+  pub spawn_of : (exits : Exits) (line : ℕ) (low high : Expr) (list : List Stmt) (c0 c1 c2 c3 : List Placed) (t0 t1 : List (List ℕ)) →
+      c1 ≡ bounds_code globals body variables line low high c0 → EmitsSequence globals body variables exits list c1 c2 t0 t1 → c3 ≡ c2 ++ at_line quad.Join line ∷ [] →
+      Emits (statement_code globals body variables exits line (stmt.Spawn low high list)) (texts_in (stmt.Spawn low high list)) c0 c3 t0 t1
   unfolding opened
-  spawn_of exits line second low high list lo hi c0 c1 c2 c3 c4 c5 t0 t1 es h1 h2 el eh h3 h4 h5 =
+  spawn_of exits line low high list c0 c1 c2 c3 t0 t1 h1 h2 h3 =
       let l : Operand = operand_of variables low.kind in
       let h : Operand = operand_of (variables + 1) high.kind in
-      let h2' : Appends (expression_code globals body (variables + 1) high) c1 c2 = subst (λ n. Appends (expression_code globals body n high) c1 c2) es h2 in
-      let h3' : c3 ≡ c2 ++ at_line (quad.Spawn l h) line ∷ [] =
-      h3 ∙ ap (λ o. c2 ++ at_line (quad.Spawn o hi) line ∷ []) el ∙ ap (λ o. c2 ++ at_line (quad.Spawn l o) line ∷ []) (eh ∙ ap (λ n. operand_of n high.kind) es) in
+      let b0 : List Placed = with_code (expression_code globals body variables low) c0 in
+      let b1 : List Placed = with_code (expression_code globals body (variables + 1) high) b0 in
       let given : Emits (λ n at. code_then at (expression_code globals body variables low at) (λ at. code_then at (expression_code globals body (variables + 1) high at) (λ at.
-      spawn_code line at n.spawned l h (sequence_code globals body variables exits list (in_spawn n))))) (all_texts (rows_of list)) c0 c5 t0 t1 =
+      spawn_code line at n.spawned l h (sequence_code globals body variables exits list (in_spawn n))))) (all_texts (rows_of list)) c0 c3 t0 t1 =
       record {
         appended = λ spawned.
             let block : ℕ → List Lined = sequence_code globals body variables exits list (record { spawned = 1 + spawned; printed = length t0 }) in
-            in_turn (expression_code globals body variables low) (λ at. code_then at (expression_code globals body (variables + 1) high at) (λ at. spawn_code line at spawned l h block)) c0 c1 c5 h1
-            (in_turn (expression_code globals body (variables + 1) high) (λ at. spawn_code line at spawned l h block) c1 c2 c5 h2'
-            (spawned_code line spawned l h block c2 c3 c4 c5 h3' (h4.appended (1 + spawned)) h5));
-        printed = h4.printed;
+            in_turn (expression_code globals body variables low) (λ at. code_then at (expression_code globals body (variables + 1) high at) (λ at. spawn_code line at spawned l h block)) c0 b0 c3 refl
+            (in_turn (expression_code globals body (variables + 1) high) (λ at. spawn_code line at spawned l h block) b0 b1 c3 refl
+            (spawned_code line spawned l h block b1 c1 c2 c3 h1 (h2.appended (1 + spawned)) h3));
+        printed = h2.printed;
       }
       in
       subst (λ (row : AnyRow). Emits (λ n at. code_then at (expression_code globals body variables low at) (λ at. code_then at (expression_code globals body (variables + 1) high at) (λ at.
-      spawn_code line at n.spawned l h (λ at. sequence_at (first_word globals) (words_of globals) (outer_of body) variables at exits.leave exits.again (in_spawn n) row.1)))) (all_texts row.1) c0 c5 t0 t1)
+      spawn_code line at n.spawned l h (λ at. sequence_at (first_word globals) (words_of globals) (outer_of body) variables at exits.leave exits.again (in_spawn n) row.1)))) (all_texts row.1) c0 c3 t0 t1)
       (sym (rows_same list)) given
 
   -- ---- a print
@@ -192,26 +186,3 @@ module _ (globals : List GlobalVar) (body : List Stmt) (variables : ℕ) where
             (in_turn (λ at. arguments) (λ at. last) c1 c2 c3 (h2 ∙ ap (λ a. c1 ++ placed a) (arguments_alike values line 0 variables)) (h3 ∙ ap (λ n. c2 ++ at_line (quad.Print n) line ∷ []) en));
         printed = ht;
       }
-
-  -- ---- a prefix-sum
-
-  pub sum_of : (line second old : ℕ) (variable place : Spot) (a b w : Access) (q last : Quad) (c0 c1 c2 c3 c4 : List Placed) → second ≡ variables + 1 → old ≡ second + held place →
-      a ≡ access_of (first_word globals) (words_of globals) (outer_of body) variables variable → q ≡ reading variables a → c1 ≡ c0 ++ at_line q line ∷ [] →
-      Appends (spot_code globals body second line place) c1 c2 → b ≡ access_of (first_word globals) (words_of globals) (outer_of body) second place →
-      Appends (λ at. adding line old b (Reg variables)) c2 c3 → w ≡ access_of (first_word globals) (words_of globals) (outer_of body) variables variable → last ≡ writing w (Reg old) → c4 ≡ c3 ++ at_line last line ∷ [] →
-      Appends (sum_code globals body variables line variable place) c0 c4
-  sum_of line second old variable place a b w q last c0 c1 c2 c3 c4 es eold ea eq h1 h2 eb h3 ew el h4 =
-      let from : Access = access_of (first_word globals) (words_of globals) (outer_of body) variables variable in
-      let to : ℕ → Access = λ s. access_of (first_word globals) (words_of globals) (outer_of body) s place in
-      let tail : (s : ℕ) → List Lined = λ s. adding line (s + held place) (to s) (Reg variables) ++ one line (writing from (Reg (s + held place))) in
-      let first : List Lined = one line (reading variables from) in
-      let h3' : Appends (λ at. adding line (second + held place) (to second) (Reg variables)) c2 c3 =
-      h3 ∙ ap (λ o. c2 ++ placed (adding line o b (Reg variables))) eold ∙ ap (λ b. c2 ++ placed (adding line (second + held place) b (Reg variables))) eb in
-      let h4' : c4 ≡ c3 ++ at_line (writing from (Reg (second + held place))) line ∷ [] =
-      h4 ∙ ap (λ q. c3 ++ at_line q line ∷ []) (el ∙ ap (λ w. writing w (Reg old)) ew ∙ ap (λ o. writing from (Reg o)) eold) in
-      let given : Appends (λ at. code_then at first (λ at. code_then at (spot_code globals body second line place at) (λ at. tail second))) c0 c4 =
-      in_turn (λ at. first) (λ at. code_then at (spot_code globals body second line place at) (λ at. tail second)) c0 c1 c4 (h1 ∙ ap (λ q. c0 ++ at_line q line ∷ []) (eq ∙ ap (reading variables) ea))
-      (in_turn (spot_code globals body second line place) (λ at. tail second) c1 c2 c4 h2
-      (in_turn (λ at. adding line (second + held place) (to second) (Reg variables)) (λ at. one line (writing from (Reg (second + held place)))) c2 c3 c4 h3' h4'))
-      in
-      subst (λ s. Appends (λ at. code_then at first (λ at. code_then at (spot_code globals body s line place at) (λ at. tail s))) c0 c4) es given

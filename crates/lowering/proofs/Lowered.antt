@@ -1,5 +1,5 @@
 -- What follows for the quads to which a program is lowered.
-use Rattle.std.proofs.Common.{ℕ, ◌*◌, ◌≤◌, Result, Ok, Err}
+use Rattle.std.proofs.Common.{◌*◌, ◌≤◌, Result, Ok, Err}
 use Rattle.std.specs.Prelude.{IfOk}
 use Rattle.source_meaning.specs.declared.tree.Program.{Program}
 use Rattle.tree_measures.specs.Nodes.{program_nodes}

@@ -7,9 +7,9 @@ use Rattle.xmt_quads.specs.declared.code.Quad.TheVariants as quad
 use Rattle.quad_code.specs.Lined.{Lined, lined, one, loop_code, do_code}
 use Rattle.lowering.specs.declared.code.Placed.{Placed}
 use Rattle.lowering.specs.declared.loops.Exits.{Exits}
-use Rattle.lowering.specs.Emitted.{placed, Appends}
+use Rattle.lowering.specs.Emitted.{at_line, placed, Appends}
 use Rattle.lowering.specs.Stated.{loop_head}
-use Rattle.lowering.proofs.Appends.{at_line, placed-append, placed-length, in_turn, two_writes}
+use Rattle.lowering.proofs.Appends.{placed-append, placed-length, in_turn, two_writes}
 
 -- a loop without what stands in front of its head: of each quad at its ends, what it is for the place of the body
 abbrev ring : (line at : ℕ) → (head : ℕ → Quad) → (inside : (at leave again : ℕ) → List Lined) → (tail : ℕ → List Lined) → (last : ℕ → Quad) → List Lined

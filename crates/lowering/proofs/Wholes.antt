@@ -8,7 +8,6 @@ use Rattle.source_meaning.specs.declared.tree.Program.{Program}
 use Rattle.source_meaning.specs.Layout.{first_word, words_of}
 use Rattle.source_meaning.specs.Code.{all_spawns}
 use Rattle.xmt_quads.specs.declared.code.Operand.TheVariants.{Literal}
-use Rattle.xmt_quads.specs.declared.code.Quad.{Quad}
 use Rattle.xmt_quads.specs.declared.code.Quad.TheVariants as quad
 use Rattle.xmt_quads.specs.declared.code.QuadFunction.{QuadFunction}
 use Rattle.quad_code.specs.Lined.{Lined, one}
@@ -18,10 +17,10 @@ use Rattle.quad_code.specs.Functions.{outer_of, parameter_code, parameters_code,
 use Rattle.quad_code.specs.Whole.{all_texts, texts_of, codes_from}
 use Rattle.lowering.specs.declared.code.Placed.{Placed}
 use Rattle.lowering.specs.declared.loops.Exits.{Exits}
-use Rattle.lowering.specs.Emitted.{placed, Appends}
+use Rattle.lowering.specs.Emitted.{at_line, placed, Appends}
 use Rattle.lowering.specs.Stated.{Emits, sequence_code, body_code, EmitsSequence}
 use Rattle.lowering.specs.Whole.{IsFunctionOf, AreFunctionsOf, is_unmarked}
-use Rattle.lowering.proofs.Appends.{at_line, placed-append, in_turn}
+use Rattle.lowering.proofs.Appends.{placed-append, in_turn}
 use Rattle.lowering.proofs.Sequels.{all_counted, behind_counted}
 
 -- ---- parameters
@@ -75,16 +74,19 @@ lines_of : (code : List Lined) → map (λ (p : Placed). p.line) (placed code) �
 lines_of [] = refl
 lines_of (l ∷ code) = ap (λ c. l.line ∷ c) (lines_of code)
 
-pub function_made : (globals : List GlobalVar) (function : Function) (inner : Bool) (code : List Placed) (t0 t1 : List (List ℕ)) (quads : List Quad) (lines : List ℕ) (registers : ℕ) →
-    Emits (body_code globals function) (all_texts (rows_of function.body)) [] code t0 t1 → quads ≡ map (λ (p : Placed). p.quad) code → lines ≡ map (λ (p : Placed). p.line) code → registers ≡ function.variables + 256 →
-    IsFunctionOf globals function inner t0 t1 (record { quads = quads; lines = lines; registers = registers; inner = inner })
-function_made globals function inner code t0 t1 quads lines registers h eq el er = record {
-  quads = λ spawned. eq ∙ ap (map (λ (p : Placed). p.quad)) (h.appended spawned) ∙ quads_of (body_code globals function (record { spawned = spawned; printed = length t0 }) 0);
-  lines = λ spawned. el ∙ ap (map (λ (p : Placed). p.line)) (h.appended spawned) ∙ lines_of (body_code globals function (record { spawned = spawned; printed = length t0 }) 0);
-  registers = er;
-  inner = refl;
-  texts = h.printed;
-}
+pub function_made : (globals : List GlobalVar) (function : Function) (inner : Bool) (code : List Placed) (t0 t1 : List (List ℕ)) (made : QuadFunction) (registers : ℕ) →
+    Emits (body_code globals function) (all_texts (rows_of function.body)) [] code t0 t1 → registers ≡ function.variables + 256 →
+    made ≡ record { quads = map (λ (p : Placed). p.quad) code; lines = map (λ (p : Placed). p.line) code; registers = registers; inner = inner } →
+    IsFunctionOf globals function inner t0 t1 made
+function_made globals function inner code t0 t1 made registers h er is =
+    let all : ℕ → List Lined = λ spawned. body_code globals function (record { spawned = spawned; printed = length t0 }) 0 in
+    record {
+      quads = λ spawned. ap (λ (f : QuadFunction). f.quads) is ∙ ap (map (λ (p : Placed). p.quad)) (h.appended spawned) ∙ quads_of (all spawned);
+      lines = λ spawned. ap (λ (f : QuadFunction). f.lines) is ∙ ap (map (λ (p : Placed). p.line)) (h.appended spawned) ∙ lines_of (all spawned);
+      registers = ap (λ (f : QuadFunction). f.registers) is ∙ er;
+      inner = ap (λ (f : QuadFunction). f.inner) is;
+      texts = h.printed;
+    }
 
 -- ---- functions
 

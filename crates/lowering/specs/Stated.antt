@@ -1,5 +1,5 @@
 -- Statements as they are appended, with the texts of their prints.
-use Rattle.std.specs.Prelude.{◌≡◌, ℕ, List, [], ◌∷◌, ◌++◌, Option, Some, None, length}
+use Rattle.std.specs.Prelude.{◌≡◌, ℕ, ◌+◌, List, [], ◌∷◌, ◌++◌, Option, Some, None, length, slice_set}
 use Rattle.source_meaning.specs.declared.tree.Expr.{Expr}
 use Rattle.source_meaning.specs.declared.tree.Spot.{Spot}
 use Rattle.source_meaning.specs.declared.tree.Stmt.{Stmt}
@@ -9,17 +9,19 @@ use Rattle.source_meaning.specs.declared.tree.StmtKind.TheVariants as stmt
 use Rattle.source_meaning.specs.declared.tree.GlobalVar.{GlobalVar}
 use Rattle.source_meaning.specs.Layout.{first_word, words_of}
 use Rattle.xmt_quads.specs.declared.code.Operand.{Operand}
-use Rattle.xmt_quads.specs.declared.code.Operand.TheVariants.{Literal}
+use Rattle.xmt_quads.specs.declared.code.Operand.TheVariants.{Reg, Literal}
 use Rattle.xmt_quads.specs.declared.code.Quad.{Quad}
 use Rattle.xmt_quads.specs.declared.code.Quad.TheVariants as quad
 use Rattle.quad_code.specs.Lined.{Lined, one, code_then}
 use Rattle.quad_code.specs.Rows.{rows_of}
 use Rattle.quad_code.specs.Functions.{outer_of, parameters_code}
+use Rattle.quad_code.specs.declared.Access.{Access}
+use Rattle.quad_code.specs.Expressions.{operand_of, access_of, adding, writing}
 use Rattle.quad_code.specs.Statements.{Counts, option_at, print_at, sum_at, statement_at, sequence_at}
 use Rattle.quad_code.specs.Whole.{texts_in, all_texts}
 use Rattle.lowering.specs.declared.code.Placed.{Placed}
 use Rattle.lowering.specs.declared.loops.Exits.{Exits}
-use Rattle.lowering.specs.Emitted.{Appends}
+use Rattle.lowering.specs.Emitted.{Appends, with_code, at_line, expression_code}
 
 -- This code was appended, and these texts, whose prints are numbered from that of the next text on. How many spawns stand before it makes no difference.
 pub record Emits (code : Counts → (at : ℕ) → List Lined) (texts : List (List ℕ)) (old new : List Placed) (before behind : List (List ℕ)) : Type 0 where
@@ -37,22 +39,61 @@ IsPlain (stmt.Spawn' low high shape body) = ⊥
 IsPlain (stmt.Print text values) = ⊥
 IsPlain _ = Unit {0}
 
--- a loop
-abbrev pub IsLoop : StmtKind → Type 0
-IsLoop (stmt.While' test shape body) = Unit {0}
-IsLoop (stmt.Do' shape body test) = Unit {0}
-IsLoop (stmt.For' first_shape first test third shape body) = Unit {0}
-IsLoop _ = ⊥
+-- the kind of a statement
+abbrev pub IsIf : StmtKind → Type 0
+IsIf (stmt.If' test shape body other) = Unit {0}
+IsIf _ = ⊥
+
+abbrev pub IsWhile : StmtKind → Type 0
+IsWhile (stmt.While' test shape body) = Unit {0}
+IsWhile _ = ⊥
+
+abbrev pub IsDo : StmtKind → Type 0
+IsDo (stmt.Do' shape body test) = Unit {0}
+IsDo _ = ⊥
+
+abbrev pub IsFor : StmtKind → Type 0
+IsFor (stmt.For' first_shape first test third shape body) = Unit {0}
+IsFor _ = ⊥
+
+abbrev pub IsSpawn : StmtKind → Type 0
+IsSpawn (stmt.Spawn' low high shape body) = Unit {0}
+IsSpawn _ = ⊥
 
 -- the quad at the head of a loop that begins there: the test's jump, or, where the test comes behind the body, a jump to the body
 abbrev pub loop_head : Option Operand → (start : ℕ) → Quad
 loop_head None start = quad.Jump start
 loop_head (Some o) start = quad.IfNot o start
 
+-- the exits of a loop whose head stands behind this code
+abbrev pub exits_behind : List Placed → Exits
+exits_behind code = record { leave = length code + 1; again = length code + 1 + 1 }
+
+-- the head of a loop, and its two jumps, which are written over later
+abbrev pub loop_begun : List Placed → Option Operand → (line : ℕ) → List Placed
+loop_begun code o line =
+    code ++ at_line (loop_head o (length code + 1 + 1 + 1)) line ∷ at_line (quad.Jump 0) line ∷ at_line (quad.Jump 0) line ∷ []
+
+-- the last quad of a loop, and its two jumps: out of it, and to the position behind its body
+abbrev pub loop_ended : List Placed → Exits → (behind : ℕ) → (last : Quad) → (line : ℕ) → List Placed
+loop_ended code exits behind last line =
+    slice_set (slice_set (code ++ at_line last line ∷ []) exits.leave (at_line (quad.Jump (length code + 1)) line)) exits.again (at_line (quad.Jump behind) line)
+
 -- ---- in a function with this body, and with so many variables, over these globals
 module _ (globals : List GlobalVar) (body : List Stmt) (variables : ℕ) where
   abbrev pub option_code : Option Expr → (at : ℕ) → List Lined
   option_code e at = option_at (first_word globals) (words_of globals) (outer_of body) variables at e
+
+  -- the bounds of a spawn, and the spawn
+  abbrev pub bounds_code : (line : ℕ) → (low high : Expr) → List Placed → List Placed
+  bounds_code line low high code =
+      with_code (expression_code globals body (variables + 1) high) (with_code (expression_code globals body variables low) code) ++
+      at_line (quad.Spawn (operand_of variables low.kind) (operand_of (variables + 1) high.kind)) line ∷ []
+
+  -- what stands behind the index of a prefix-sum
+  abbrev pub summed_code : (line old : ℕ) → (to : Access) → (variable : Spot) → List Lined
+  summed_code line old to variable =
+      adding line old to (Reg variables) ++ one line (writing (access_of (first_word globals) (words_of globals) (outer_of body) variables variable) (Reg old))
 
   abbrev pub sum_code : (line : ℕ) → (variable place : Spot) → (at : ℕ) → List Lined
   sum_code line variable place at = sum_at (first_word globals) (words_of globals) (outer_of body) variables at line variable place

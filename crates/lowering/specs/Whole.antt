@@ -4,6 +4,8 @@ use Rattle.source_meaning.specs.declared.tree.Function.{Function}
 use Rattle.source_meaning.specs.declared.tree.GlobalVar.{GlobalVar}
 use Rattle.source_meaning.specs.declared.tree.Program.{Program}
 use Rattle.source_meaning.specs.Layout.{first_word, words_of}
+use Rattle.spawn_check.specs.declared.things.Sought.TheVariants as sought
+use Rattle.spawn_check.specs.Marking.{AreExact}
 use Rattle.xmt_quads.specs.declared.code.QuadFunction.{QuadFunction}
 use Rattle.quad_code.specs.Rows.{rows_of}
 use Rattle.quad_code.specs.Functions.{function_code}
@@ -33,3 +35,11 @@ pub record AreFunctionsOf (program : Program) (prints spawns : List Bool) (first
   pub registers : map (λ f. f.registers) made ≡ map (λ f. f.variables + 256) functions
   pub inner : map (λ f. f.inner) made ≡ unmarked_from prints spawns first functions
   pub texts : behind ≡ before ++ texts_of functions
+
+-- these are the codes of all functions of a program, and these texts were added; the marks are those of the functions that reach a print and a spawn
+pub record AreLowered (program : Program) (made : List QuadFunction) (before behind : List (List ℕ)) : Type 0 where
+  pub prints : List Bool
+  pub spawns : List Bool
+  pub are_prints : AreExact program.functions sought.Print prints
+  pub are_spawns : AreExact program.functions sought.Spawn spawns
+  pub functions : AreFunctionsOf program prints spawns 0 program.functions before behind made

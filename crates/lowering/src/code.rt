@@ -1,11 +1,12 @@
 //! Code on its way: quads with their lines, to which more are appended.
 ghost use Rattle.std.specs.Prelude.{◌≡◌, ◌+◌, ◌++◌, [], ◌∷◌, length, slice_set, IfOk, OnOk};
+ghost use Rattle.lowering.specs.Emitted.{jump_unless, choice_closed};
 
 use std::alloc::AllocError;
-use xmt_quads::Quad;
+use xmt_quads::{Operand, Quad};
 
 /// A quad with its source line.
-#[derive(Clone, Copy, Debug, PartialEq, Eq)]
+#[derive(Clone, Copy)]
 pub struct Placed {
     pub quad: Quad,
     pub line: u32,
@@ -48,19 +49,42 @@ pub(crate) fn patch(code: &mut Vec<Placed>, at: u32, quad: Quad, line: u32)
     }
 }
 
-/// Writes the two jumps of a choice, once both of its sides stand: the test, which has its target
-/// already, and the jump past the second side.
+/// Appends a jump that is written over later, and tells where it stands.
+pub(crate) fn reserve(code: &mut Vec<Placed>, line: u32) -> Result<u32, AllocError>
+    ensures place { IfOk result (λ at. at ≡ length code.old.items) }
+    ensures code { OnOk result (code.new.items ≡ code.old.items ++ record { quad = Quad.Jump 0; line = line } ∷ []) }
+{
+    let at = position(code.as_slice())?;
+    put(code, Quad::Jump(0), line)?;
+    Ok(at)
+}
+
+// The jump that a test makes: where its value is 0, or where it is another number.
+fn jump_unless(holds: bool, o: Operand, to: u32) -> Quad
+    ensures { result ≡ jump_unless holds o to }
+{
+    if holds {
+        Quad::IfZero(o, to)
+    } else {
+        Quad::IfNot(o, to)
+    }
+}
+
+/// Writes the two jumps of a choice, once both of its sides stand: the one past the first side,
+/// which is taken unless the test holds (or fails), and the one past the second side.
 pub(crate) fn close_choice(
     code: &mut Vec<Placed>,
     skip: u32,
-    test: Quad,
+    holds: bool,
+    o: Operand,
     jump: u32,
     line: u32,
 ) -> Result<(), AllocError>
-    ensures { OnOk result (code.new.items ≡ slice_set (slice_set code.old.items skip (record { quad = test; line = line })) jump (record { quad = Quad.Jump (length code.old.items); line = line })) }
+    ensures { OnOk result (code.new.items ≡ choice_closed code.old.items skip (jump_unless holds o) jump line) }
 {
     let end = position(code.as_slice())?;
-    patch(code, skip, test, line);
+    let second = next(jump)?;
+    patch(code, skip, jump_unless(holds, o, second), line);
     patch(code, jump, Quad::Jump(end), line);
     Ok(())
 }

@@ -1,6 +1,6 @@
 //! The quads of functions.
 
-ghost use Rattle.std.specs.Prelude.{◌≡◌, ◌+◌, length, map, IfOk, OnOk};
+ghost use Rattle.std.specs.Prelude.{◌≡◌, ◌+◌, [], length, map, IfOk, OnOk};
 ghost use Rattle.quad_code.specs.Functions.{parameter_code, parameters_code, outer_of};
 ghost use Rattle.lowering.specs.Emitted.{Appends, outer_numbers};
 ghost use Rattle.lowering.specs.Stated.{Emits, body_code};
@@ -120,6 +120,47 @@ fn registers_of(function: &Function) -> Result<u32, AllocError>
     }
 }
 
+// The code of a function, whose variables have these numbers among the shared ones.
+fn code_of(
+    function: &Function,
+    texts: &mut Texts,
+    layout: &Layout<'_>,
+    outer: &[Option<u32>],
+) -> Result<Vec<Placed>, AllocError>
+    requires { outer.now ≡ outer_numbers function.now.body (length outer.now) }
+    ensures { IfOk result (λ code. Emits (body_code layout.now.globals.now function.now) (all_texts (rows_of function.now.body)) [] code.items texts.old.list texts.new.list) }
+{
+    let tables = Tables {
+        globals: layout.globals,
+        symbols: layout.symbols,
+        words: layout.words,
+        body: function.body.as_slice(),
+        outer,
+    };
+    let mut code = Vec::new(texts.alloc);
+    emit_function(function, &mut code, texts, &tables)?;
+    Ok(code)
+}
+
+// The quads and the lines of a function apart.
+fn function_of(
+    alloc: Global,
+    code: &[Placed],
+    registers: u32,
+    inner: bool,
+) -> Result<QuadFunction, AllocError>
+    ensures { IfOk result (λ f. f ≡ record { quads = map (λ p. p.quad) code.now; lines = map (λ p. p.line) code.now; registers = registers; inner = inner }) }
+{
+    let quads = quads_in(alloc, code)?;
+    let lines = lines_in(alloc, code)?;
+    Ok(QuadFunction {
+        quads,
+        lines,
+        registers,
+        inner,
+    })
+}
+
 /// Lowers a function, and adds its texts.
 pub(crate) fn lower_function(
     function: &Function,
@@ -130,21 +171,9 @@ pub(crate) fn lower_function(
     ensures { IfOk result (IsFunctionOf layout.now.globals.now function.now inner texts.old.list texts.new.list) }
 {
     let alloc = texts.alloc;
-    let body = function.body.as_slice();
-    let outer = numbers_of(alloc, body, function.variables)?;
-    let tables = Tables {
-        globals: layout.globals,
-        symbols: layout.symbols,
-        words: layout.words,
-        body,
-        outer: outer.as_slice(),
-    };
-    let mut code = Vec::new(alloc);
-    emit_function(function, &mut code, texts, &tables)?;
-    Ok(QuadFunction {
-        quads: quads_in(alloc, code.as_slice())?,
-        lines: lines_in(alloc, code.as_slice())?,
-        registers: registers_of(function)?,
-        inner,
-    })
+    let registers = registers_of(function)?;
+    let outer = numbers_of(alloc, function.body.as_slice(), function.variables)?;
+    let code = code_of(function, texts, layout, outer.as_slice())?;
+    let lowered = function_of(alloc, code.as_slice(), registers, inner)?;
+    Ok(lowered)
 }

@@ -1,4 +1,6 @@
-//! From the typed tree to quads.
+//! From the typed tree to quads. `lower` answers the stated quads of a checked program within the limits: they are
+//! well formed, each of their traces is one of the program, with a work of at most 64 for each step of the source
+//! and 40 more, and they weigh at most 64 a node. Want of memory alone is free.
 #![tactic(auto)]
 
 mod code;
@@ -19,6 +21,3 @@ pub use loops::Exits;
 pub use program::lower;
 pub use tables::Tables;
 pub use texts::Texts;
-
-#[cfg(test)]
-mod tests;

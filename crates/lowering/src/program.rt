@@ -2,13 +2,14 @@
 
 ghost use Rattle.std.specs.Prelude.{◌≡◌, ◌*◌, ℕ, ◌≤◌, [], length, map, slice_index_or, slice_get, false, IfOk};
 ghost use Rattle.tree_measures.specs.Nodes.{program_nodes};
+ghost use Rattle.source_meaning.specs.Layout.{symbols_from, opening_registers};
 ghost use Rattle.xmt_quads.specs.Program.{weight_of};
 ghost use Rattle.xmt_quads.specs.Traces.{traces_of};
 ghost use Rattle.xmt_quads.specs.WellFormed.{IsWellFormed};
 ghost use Rattle.quad_code.specs.Whole.{HasPaidTraces};
 ghost use Rattle.lowered_quads.specs.Law.{CanBeLowered};
-ghost use Rattle.lowered_quads.specs.Lowered.{IsLowered, register_values as values_of};
-ghost use Rattle.lowering.specs.Whole.{is_unmarked, AreFunctionsOf};
+ghost use Rattle.lowered_quads.specs.Lowered.{IsLowered};
+ghost use Rattle.lowering.specs.Whole.{is_unmarked, AreFunctionsOf, AreLowered};
 
 use crate::functions::lower_function;
 use crate::layout::{Layout, symbols_of, word_count, words_at_start};
@@ -17,6 +18,7 @@ use source_meaning::{Program, Register};
 use spawn_check::{Sought, marks_of, outer_words};
 use sqlite_items::Items;
 use std::alloc::{AllocError, Global};
+use xmt_base::Symbol;
 use xmt_quads::{QuadFunction, QuadProgram};
 
 // What the register with this number opens with, or 0 where there is none.
@@ -31,7 +33,7 @@ fn opening_of(registers: &[Register], number: usize) -> u32
 
 // What the eight registers open with.
 fn register_values(program: &Program) -> [u32; 8]
-    ensures { result ≡ values_of program.now }
+    ensures { result ≡ opening_registers program.now }
 {
     let registers = program.registers.as_slice();
     [
@@ -95,32 +97,48 @@ pub fn lower(alloc: Global, program: &Program) -> Result<QuadProgram, AllocError
     lowered(alloc, program)
 }
 
+// Lowers each function of a program whose globals have these symbols.
+fn lower_all(
+    program: &Program,
+    symbols: &[Symbol],
+    texts: &mut Texts,
+) -> Result<Items<QuadFunction>, AllocError>
+    requires functions { length program.now.functions ≤ 1000 }
+    requires symbols { symbols.now ≡ symbols_from 0 program.now.globals }
+    ensures { IfOk result (λ made. AreLowered program.now made texts.old.list texts.new.list) }
+{
+    let globals = program.globals.as_slice();
+    let functions = program.functions.as_slice();
+    let layout = Layout {
+        globals,
+        symbols,
+        words: word_count(globals)?,
+    };
+    let prints = marks_of(functions, Sought::Print);
+    let spawns = marks_of(functions, Sought::Spawn);
+    let made = lower_functions(program, texts, &layout, &prints, &spawns)?;
+    Ok(made)
+}
+
 // The quads of a program.
 fn lowered(alloc: Global, program: &Program) -> Result<QuadProgram, AllocError>
     requires { CanBeLowered program.now }
     ensures { IfOk result (IsLowered program.now) }
 {
     let globals = program.globals.as_slice();
-    let functions = program.functions.as_slice();
-    let prints = marks_of(functions, Sought::Print);
-    let spawns = marks_of(functions, Sought::Spawn);
     let symbols = symbols_of(alloc, globals)?;
-    let layout = Layout {
-        globals,
-        symbols: symbols.as_slice(),
-        words: word_count(globals)?,
-    };
+    let words = words_at_start(alloc, globals)?;
     let mut texts = Texts {
         alloc,
         list: Items::new(alloc),
     };
-    let functions = lower_functions(program, &mut texts, &layout, &prints, &spawns)?;
+    let functions = lower_all(program, symbols.as_slice(), &mut texts)?;
     Ok(QuadProgram {
         functions,
         main: program.main,
         texts: texts.list,
         symbols,
-        words: words_at_start(alloc, globals)?,
+        words,
         ps: register_values(program),
         outer: outer_words(program),
     })

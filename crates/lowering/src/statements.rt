@@ -2,47 +2,22 @@
 #![tactic(auto, unfolding(source_meaning::specs::Opened::opened))]
 
 ghost use Rattle.std.specs.Prelude.{◌≡◌, [], ◌∷◌, OnOk};
-ghost use Rattle.quad_code.specs.Statements.{option_operand as option_operand_of};
 ghost use Rattle.lowering.specs.Emitted.{Appends};
-ghost use Rattle.lowering.specs.Stated.{Emits, IsPlain, IsLoop, option_code, print_code, plain_code, statement_code, EmitsStatement, EmitsSequence, EmitsOther};
+ghost use Rattle.lowering.specs.Stated.{Emits, IsPlain, IsIf, IsWhile, IsDo, IsFor, IsSpawn, bounds_code, print_code, plain_code, statement_code, EmitsStatement, EmitsSequence, EmitsOther};
 
-use crate::code::{Placed, close_choice, next, position, put};
+use crate::code::{Placed, close_choice, next, put, reserve};
 use crate::expressions::{
-    access_to, emit_arguments, emit_expression, emit_values, operand, writing,
+    access_to, emit_arguments, emit_expression, emit_option, emit_values, operand, option_operand,
+    writing,
 };
-use crate::loops::{Exits, close_loop, open_loop};
-use crate::sums::emit_sum;
+use crate::loops::{Exits, close_do, close_for, close_while, open_loop, open_tested, open_while};
+use crate::sums::{emit_ps, emit_psm};
 use crate::tables::{Tables, outer_in};
 use crate::texts::{Texts, add_text, next_text};
-use source_meaning::{Expr, Spot, Stmt, StmtKind};
+use source_meaning::{Expr, Stmt, StmtKind};
 use sqlite_items::Boxed;
 use std::alloc::AllocError;
-use xmt_quads::{Operand, Quad};
-
-// Where the value of an expression is found, or this number where there is none.
-fn option_operand(r: u32, default: u32, e: &Option<Boxed<Expr>>) -> Operand
-    ensures { result ≡ option_operand_of r default e.now }
-{
-    match e {
-        None => Operand::Literal(default),
-        Some(e) => operand(r, e.get()),
-    }
-}
-
-// Appends an expression where there is one.
-fn emit_option(
-    e: &Option<Boxed<Expr>>,
-    code: &mut Vec<Placed>,
-    tables: &Tables<'_>,
-    r: u32,
-) -> Result<(), AllocError>
-    ensures { OnOk result (Appends (option_code tables.now.globals.now tables.now.body.now r e.now) code.old.items code.new.items) }
-{
-    match e {
-        None => Ok(()),
-        Some(e) => emit_expression(e.get(), code, tables, r),
-    }
-}
+use xmt_quads::Quad;
 
 // Appends a statement that has no statement inside it, and prints nothing.
 fn emit_plain(
@@ -69,13 +44,31 @@ fn emit_plain(
             emit_option(value, code, tables, r)?;
             put(code, Quad::Return(option_operand(r, 0, value)), line)
         }
-        StmtKind::Ps(variable, register) => {
-            let place = Spot::Register(*register);
-            emit_sum(variable, &place, code, tables, r, line)
-        }
-        StmtKind::Psm(variable, place) => emit_sum(variable, place, code, tables, r, line),
+        StmtKind::Ps(variable, register) => emit_ps(variable, *register, code, tables, r, line),
+        StmtKind::Psm(variable, place) => emit_psm(variable, place, code, tables, r, line),
         _ => Ok(()),
     }
+}
+
+// Appends the bounds of a spawn and the spawn: the low one is computed first.
+fn emit_bounds(
+    low: &Expr,
+    high: &Expr,
+    code: &mut Vec<Placed>,
+    tables: &Tables<'_>,
+    r: u32,
+    line: u32,
+) -> Result<(), AllocError>
+    ensures { OnOk result (code.new.items ≡ bounds_code tables.now.globals.now tables.now.body.now r line low.now high.now code.old.items) }
+{
+    let second = next(r)?;
+    emit_expression(low, code, tables, r)?;
+    emit_expression(high, code, tables, second)?;
+    put(
+        code,
+        Quad::Spawn(operand(r, low), operand(second, high)),
+        line,
+    )
 }
 
 // Appends a print: its values, the argument list, and the text.
@@ -112,91 +105,140 @@ pub(crate) fn emit_statement(
 {
     let line = s.at.line;
     match &s.kind {
-        StmtKind::Block(body) => {
-            emit_statements(body.as_slice(), code, texts, tables, r, exits)?;
-            Ok(())
-        }
-        StmtKind::If(test, body, other) => {
-            emit_expression(test.get(), code, tables, r)?;
-            let skip = position(code.as_slice())?;
-            put(code, Quad::Jump(0), line)?;
-            emit_statement(body.get(), code, texts, tables, r, exits)?;
-            let jump = position(code.as_slice())?;
-            put(code, Quad::Jump(0), line)?;
-            emit_other(other, code, texts, tables, r, exits)?;
-            let past = Quad::IfZero(operand(r, test.get()), next(jump)?);
-            close_choice(code, skip, past, jump, line)?;
-            Ok(())
-        }
-        StmtKind::While(_, _) | StmtKind::Do(_, _) | StmtKind::For(_, _, _, _) => {
-            emit_loop(s, code, texts, tables, r, exits)
-        }
-        StmtKind::Spawn(low, high, block) => {
-            let second = next(r)?;
-            emit_expression(low.get(), code, tables, r)?;
-            emit_expression(high.get(), code, tables, second)?;
-            let spawn = Quad::Spawn(operand(r, low.get()), operand(second, high.get()));
-            put(code, spawn, line)?;
-            emit_statements(block.as_slice(), code, texts, tables, r, exits)?;
-            put(code, Quad::Join, line)?;
-            Ok(())
-        }
+        StmtKind::Block(body) => { emit_statements(body.as_slice(), code, texts, tables, r, exits) }
+        StmtKind::If(_, _, _) => emit_if(s, code, texts, tables, r, exits),
+        StmtKind::While(_, _) => emit_while(s, code, texts, tables, r, exits),
+        StmtKind::Do(_, _) => emit_do(s, code, texts, tables, r, exits),
+        StmtKind::For(_, _, _, _) => emit_for(s, code, texts, tables, r, exits),
+        StmtKind::Spawn(_, _, _) => emit_spawn(s, code, texts, tables, r, exits),
         StmtKind::Print(text, values) => {
             let values = values.as_slice();
-            emit_print(values, text.as_slice(), code, texts, tables, r, line)?;
-            Ok(())
+            emit_print(values, text.as_slice(), code, texts, tables, r, line)
         }
-        _ => {
-            emit_plain(s, code, tables, r, exits)?;
-            Ok(())
-        }
+        _ => { emit_plain(s, code, tables, r, exits) }
     }
 }
 
-// A loop.
+// `if`
 #[cycle(state)]
-fn emit_loop(
+fn emit_if(
     s: &Stmt,
     code: &mut Vec<Placed>,
     texts: &mut Texts,
     tables: &Tables<'_>,
     r: u32,
-    outside: Exits,
+    exits: Exits,
 ) -> Result<(), AllocError>
-    requires { IsLoop s.now.kind }
-    ensures { OnOk result (EmitsStatement tables.now.globals.now tables.now.body.now r outside s.now code.old.items code.new.items texts.old.list texts.new.list) }
+    requires { IsIf s.now.kind }
+    ensures { OnOk result (EmitsStatement tables.now.globals.now tables.now.body.now r exits s.now code.old.items code.new.items texts.old.list texts.new.list) }
+{
+    let line = s.at.line;
+    match &s.kind {
+        StmtKind::If(test, body, other) => {
+            let test = test.get();
+            emit_expression(test, code, tables, r)?;
+            let skip = reserve(code, line)?;
+            emit_statement(body.get(), code, texts, tables, r, exits)?;
+            let jump = reserve(code, line)?;
+            emit_other(other, code, texts, tables, r, exits)?;
+            close_choice(code, skip, true, operand(r, test), jump, line)
+        }
+        _ => Ok(()),
+    }
+}
+
+// `while`
+#[cycle(state)]
+fn emit_while(
+    s: &Stmt,
+    code: &mut Vec<Placed>,
+    texts: &mut Texts,
+    tables: &Tables<'_>,
+    r: u32,
+    exits: Exits,
+) -> Result<(), AllocError>
+    requires { IsWhile s.now.kind }
+    ensures { OnOk result (EmitsStatement tables.now.globals.now tables.now.body.now r exits s.now code.old.items code.new.items texts.old.list texts.new.list) }
 {
     let line = s.at.line;
     match &s.kind {
         StmtKind::While(test, body) => {
-            let at = position(code.as_slice())?;
-            emit_expression(test.get(), code, tables, r)?;
-            let exits = open_loop(code, Some(operand(r, test.get())), line)?;
-            emit_statement(body.get(), code, texts, tables, r, exits)?;
-            let behind = position(code.as_slice())?;
-            close_loop(code, exits, behind, Quad::Jump(at), line)?;
-            Ok(())
+            let head = open_while(test.get(), code, tables, r, line)?;
+            emit_statement(body.get(), code, texts, tables, r, head.exits)?;
+            close_while(code, head, line)
         }
+        _ => Ok(()),
+    }
+}
+
+// `do`
+#[cycle(state)]
+fn emit_do(
+    s: &Stmt,
+    code: &mut Vec<Placed>,
+    texts: &mut Texts,
+    tables: &Tables<'_>,
+    r: u32,
+    exits: Exits,
+) -> Result<(), AllocError>
+    requires { IsDo s.now.kind }
+    ensures { OnOk result (EmitsStatement tables.now.globals.now tables.now.body.now r exits s.now code.old.items code.new.items texts.old.list texts.new.list) }
+{
+    let line = s.at.line;
+    match &s.kind {
         StmtKind::Do(body, test) => {
-            let exits = open_loop(code, None, line)?;
-            let start = next(exits.again)?;
-            emit_statement(body.get(), code, texts, tables, r, exits)?;
-            let behind = position(code.as_slice())?;
-            emit_expression(test.get(), code, tables, r)?;
-            let last = Quad::IfNot(operand(r, test.get()), start);
-            close_loop(code, exits, behind, last, line)?;
-            Ok(())
+            let inner = open_loop(code, None, line)?;
+            emit_statement(body.get(), code, texts, tables, r, inner)?;
+            close_do(test.get(), code, tables, r, inner, line)
         }
+        _ => Ok(()),
+    }
+}
+
+// `for`: its first part stands outside the loop.
+#[cycle(state)]
+fn emit_for(
+    s: &Stmt,
+    code: &mut Vec<Placed>,
+    texts: &mut Texts,
+    tables: &Tables<'_>,
+    r: u32,
+    exits: Exits,
+) -> Result<(), AllocError>
+    requires { IsFor s.now.kind }
+    ensures { OnOk result (EmitsStatement tables.now.globals.now tables.now.body.now r exits s.now code.old.items code.new.items texts.old.list texts.new.list) }
+{
+    let line = s.at.line;
+    match &s.kind {
         StmtKind::For(first, test, third, body) => {
-            emit_statements(first.as_slice(), code, texts, tables, r, outside)?;
-            let at = position(code.as_slice())?;
-            emit_option(test, code, tables, r)?;
-            let exits = open_loop(code, Some(option_operand(r, 1, test)), line)?;
-            emit_statement(body.get(), code, texts, tables, r, exits)?;
-            let behind = position(code.as_slice())?;
-            emit_option(third, code, tables, r)?;
-            close_loop(code, exits, behind, Quad::Jump(at), line)?;
-            Ok(())
+            emit_statements(first.as_slice(), code, texts, tables, r, exits)?;
+            let head = open_tested(test, code, tables, r, line)?;
+            emit_statement(body.get(), code, texts, tables, r, head.exits)?;
+            close_for(third, code, tables, r, head, line)
+        }
+        _ => Ok(()),
+    }
+}
+
+// `spawn`: its bounds, its block and a join.
+#[cycle(state)]
+fn emit_spawn(
+    s: &Stmt,
+    code: &mut Vec<Placed>,
+    texts: &mut Texts,
+    tables: &Tables<'_>,
+    r: u32,
+    exits: Exits,
+) -> Result<(), AllocError>
+    requires { IsSpawn s.now.kind }
+    ensures { OnOk result (EmitsStatement tables.now.globals.now tables.now.body.now r exits s.now code.old.items code.new.items texts.old.list texts.new.list) }
+{
+    let line = s.at.line;
+    match &s.kind {
+        StmtKind::Spawn(low, high, block) => {
+            emit_bounds(low.get(), high.get(), code, tables, r, line)?;
+            emit_statements(block.as_slice(), code, texts, tables, r, exits)?;
+            put(code, Quad::Join, line)
         }
         _ => Ok(()),
     }
@@ -216,10 +258,7 @@ fn emit_other(
 {
     match other {
         None => Ok(()),
-        Some(s) => {
-            emit_statement(s.get(), code, texts, tables, r, exits)?;
-            Ok(())
-        }
+        Some(s) => { emit_statement(s.get(), code, texts, tables, r, exits) }
     }
 }
 

@@ -2,7 +2,8 @@
 ghost use Rattle.quad_code.specs.Expressions.{adding as adding_code};
 ghost use Rattle.std.specs.Prelude.{OnOk};
 ghost use Rattle.lowering.specs.Emitted.{Appends};
-ghost use Rattle.lowering.specs.Stated.{sum_code};
+ghost use Rattle.source_meaning.specs.declared.tree.Spot.TheVariants.{Register};
+ghost use Rattle.lowering.specs.Stated.{sum_code, summed_code};
 
 use crate::code::{Placed, next, put};
 use crate::expressions::{access, behind, emit_spot, reading, writing};
@@ -10,7 +11,7 @@ use crate::tables::Tables;
 use quad_code::Access;
 use source_meaning::Spot;
 use std::alloc::AllocError;
-use xmt_quads::{BinOp, Operand, Quad};
+use xmt_quads::{BinOp, Operand, Quad, Where};
 
 /// Appends the quads that add a value to a place and leave what the place held in a register.
 fn emit_adding(
@@ -35,9 +36,44 @@ fn emit_adding(
     }
 }
 
-/// Appends a prefix-sum: the variable's value is added to the place, and what the place held is
-/// then the variable's value. The registers from this one on are free.
-pub(crate) fn emit_sum(
+// Appends what stands behind the index of a prefix-sum: what the variable held, which is in the first
+// register, is added, and the variable is set to what the place held.
+fn put_sum(
+    to: Access,
+    variable: &Spot,
+    code: &mut Vec<Placed>,
+    tables: &Tables<'_>,
+    r: u32,
+    old: u32,
+    line: u32,
+) -> Result<(), AllocError>
+    ensures { OnOk result (Appends (λ at. summed_code tables.now.globals.now tables.now.body.now r line old to variable.now) code.old.items code.new.items) }
+{
+    emit_adding(to, code, old, Operand::Reg(r), line)?;
+    let last = writing(access(tables, r, variable), Operand::Reg(old));
+    put(code, last, line)
+}
+
+/// Appends a prefix-sum on a register: the variable's value is added to it, and what it held is then
+/// the variable's value. The registers from this one on are free.
+pub(crate) fn emit_ps(
+    variable: &Spot,
+    register: u32,
+    code: &mut Vec<Placed>,
+    tables: &Tables<'_>,
+    r: u32,
+    line: u32,
+) -> Result<(), AllocError>
+    ensures { OnOk result (Appends (sum_code tables.now.globals.now tables.now.body.now r line variable.now (Register register)) code.old.items code.new.items) }
+{
+    let old = next(r)?;
+    put(code, reading(r, access(tables, r, variable)), line)?;
+    let to = Access::Common(Where::PsReg(register));
+    put_sum(to, variable, code, tables, r, old, line)
+}
+
+/// Appends a prefix-sum on a place, whose index is computed once the variable has been read.
+pub(crate) fn emit_psm(
     variable: &Spot,
     place: &Spot,
     code: &mut Vec<Placed>,
@@ -51,13 +87,6 @@ pub(crate) fn emit_sum(
     let old = behind(index, place)?;
     put(code, reading(r, access(tables, r, variable)), line)?;
     emit_spot(place, code, tables, index, line)?;
-    emit_adding(
-        access(tables, index, place),
-        code,
-        old,
-        Operand::Reg(r),
-        line,
-    )?;
-    let last = writing(access(tables, r, variable), Operand::Reg(old));
-    put(code, last, line)
+    let to = access(tables, index, place);
+    put_sum(to, variable, code, tables, r, old, line)
 }

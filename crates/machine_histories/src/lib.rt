@@ -1,4 +1,5 @@
-//! From a history of the shared words to a run of the machine's section.
+//! Law `histories_merge`: a legal history of the shared words is a lawful order of the requests of the units of a
+//! section, and so a legal schedule of the machine.
 #![tactic(auto)]
 
 ghost use Rattle.machine_histories.specs.Histories.{HistoriesMerge};

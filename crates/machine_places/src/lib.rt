@@ -1,4 +1,5 @@
-//! Where the threads of a valid image come: the serial code outside blocks, and each virtual thread inside its block.
+//! Law `valid_images_keep_apart`: the serial code of a valid image draws no number, its blocks neither spawn nor
+//! end the run, and each thread asks for words of the table that threads share.
 #![tactic(auto)]
 
 ghost use Rattle.xmt_isa.specs.declared.image.Image.{Image};

@@ -1,4 +1,5 @@
-//! The control units of a section, each by itself, and an order of their requests.
+//! Law `sections_merge`: what the units of a section do, each by itself, and a lawful order of their requests are a
+//! legal schedule of the machine.
 #![tactic(auto)]
 
 ghost use Rattle.machine_sections.specs.Merge.{SectionsMerge};

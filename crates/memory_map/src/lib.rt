@@ -1,9 +1,5 @@
-//! Maps, which replace opening values of globals, and dumps of memories, which are maps too.
-//!
-//! A map has one line for each global that it names: the name, then values for its first words,
-//! parted by spaces and tabs. Blank lines and what follows `//` are skipped. A value is a decimal
-//! without needless zeros or a hexadecimal number, both below 2^32, or such a number up to 2^31
-//! behind a minus sign.
+//! Maps and dumps. `read_map` puts the values of a map over the opening words, and refuses exactly at the first
+//! faulty line; `write_map` writes the dump, and reading a dump gives its memory. Want of memory alone is free.
 #![tactic(auto)]
 
 mod dump;

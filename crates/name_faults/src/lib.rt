@@ -1,4 +1,6 @@
-//! Where a raw tree breaks the rules of names and types, and which breach comes first.
+//! All breaches of names, types and limits in a raw tree, as one definition. `first_fault` answers the first of
+//! them, by place and at one place by the table, and none exactly where there is none. Want of memory alone is
+//! free.
 #![tactic(auto)]
 
 mod expressions;

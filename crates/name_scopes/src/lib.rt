@@ -1,5 +1,6 @@
-//! What the rules of names and types stand on: the names in reach, constant expressions, the
-//! numbers of nodes and of waiting values, and the order of breaches.
+//! What names stand for, and the measures of raw trees. `Scope` finds the last declaration in reach by a table, and
+//! not by going through names. `constant` answers the value of a constant expression, or none; `nodes` and
+//! `waiting` count those of raw trees; `earlier` answers the first of two breaches by place and then by kind.
 #![tactic(auto)]
 
 mod constants;

@@ -1,8 +1,6 @@
-//! The shared words of an XMTC machine: numbers that threads draw, registers, and memory of 32-bit words.
-//!
-//! Word 0 counts the numbers of passes, word 1 is the next thread number, word 2 counts print tickets, word 3 is the halt
-//! word, words 4 to 11 are the registers, and words from 12 on are shared memory. From word 4 on the low 32 bits are the
-//! value. Each call is one atomic operation on one word.
+//! The words that the machine uses: thread numbers, prefix-sum registers, memory. `draw`, `ps`, `psm`, `read`,
+//! `write`, `raise` and `halted` are one entry each, at the stated word. The low 32 bits of the replay are the
+//! replay in 32-bit numbers, and draws count up.
 #![tactic(auto)]
 
 ghost use Rattle.std.specs.Prelude.{◌≡◌, ◌≢◌, ℕ, ◌+◌, ◌≤◌, ◌<◌, MatchBool};

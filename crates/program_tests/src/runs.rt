@@ -1,14 +1,25 @@
-//! Runs of a source over a host in memory, and their comparison with a row.
-use std::alloc::Global;
-use std::test::Fail;
+//! One run of a row's source.
+use std::alloc::{AllocError, Global};
+use test_rows::{Row, shown};
 use xmt_host::{HostCall, MemoryHost};
 use xmt_top::xmt;
 
-/// A source with its exit code, output and error line.
-pub(crate) type Row = (&'static str, u8, &'static str, &'static str);
+// An outcome as a text: code, output and error stream.
+fn outcome(alloc: Global, code: u8, out: &[u8], err: &[u8]) -> Result<String, AllocError> {
+    let out = shown(alloc, out)?;
+    let err = shown(alloc, err)?;
+    format!(in alloc; "code {code}, out {out:?}, err {err:?}")
+}
+
+/// What a row wants.
+pub(crate) fn wanted(alloc: Global, row: &Row) -> Result<String, AllocError> {
+    let code = row.number("code").unwrap_or(0) as u8;
+    let out = row.text_or_empty("out").as_bytes();
+    outcome(alloc, code, out, row.text_or_empty("err").as_bytes())
+}
 
 // The words of a line, parted by single spaces.
-fn words_of(alloc: Global, line: &str) -> Result<Vec<String>, Fail> {
+fn split(alloc: Global, line: &str) -> Result<Vec<String>, AllocError> {
     let mut words = Vec::new(alloc);
     for word in line.split(' ') {
         words.push(String::from_str(alloc, word)?)?;
@@ -16,62 +27,22 @@ fn words_of(alloc: Global, line: &str) -> Result<Vec<String>, Fail> {
     Ok(words)
 }
 
-/// Runs words over a host with the file `p.xmtc`, of which the named call may fail.
-pub(crate) fn run(
-    rt: &HostRuntime,
-    words: &str,
-    source: &str,
-    failing: Option<(HostCall, u64)>,
-) -> Result<(u8, MemoryHost), Fail> {
-    let alloc = rt.alloc();
-    let mut list = Vec::new(alloc);
-    if let Some(call) = failing {
-        list.push(call)?;
+// A host in memory with the row's source, of which the named print fails.
+fn host_of(alloc: Global, row: &Row) -> Result<MemoryHost, AllocError> {
+    let mut failing = Vec::new(alloc);
+    if let Some(number) = row.number("failing") {
+        failing.push((HostCall::Print, number as u64))?;
     }
-    let mut host = MemoryHost::new(alloc, list);
-    host.with_file("p.xmtc", Vec::from_slice(alloc, source.as_bytes())?)?;
-    let words = words_of(alloc, words)?;
+    let mut host = MemoryHost::new(alloc, failing);
+    let source = Vec::from_slice(alloc, row.text_or_empty("source").as_bytes())?;
+    host.with_file("p.xmtc", source)?;
+    Ok(host)
+}
+
+/// What a row's source gives under these words.
+pub(crate) fn outcome_of(alloc: Global, row: &Row, line: &str) -> Result<String, AllocError> {
+    let mut host = host_of(alloc, row)?;
+    let words = split(alloc, line)?;
     let status = xmt(alloc, words.as_slice(), &mut host);
-    Ok((status.code, host))
-}
-
-/// Whether a run gave this code, output and error.
-pub(crate) fn alike(found: &(u8, MemoryHost), code: u8, out: &str, err: &str) -> bool {
-    found.0 == code
-        && found.1.out.as_slice() == out.as_bytes()
-        && found.1.err.as_slice() == err.as_bytes()
-}
-
-// The first source whose run under these words gives something else than its row.
-fn differing(
-    rt: &HostRuntime,
-    words: &str,
-    rows: &'static [Row],
-) -> Result<Option<&'static str>, Fail> {
-    for row in rows {
-        let found = run(rt, words, row.0, None)?;
-        if !alike(&found, row.1, row.2, row.3) {
-            return Ok(Some(row.0));
-        }
-    }
-    Ok(None)
-}
-
-/// The first source that gives something else than its row under some of the words: by default, on one
-/// unit, on many units in an order that a seed picks.
-pub(crate) fn differing_in_any(
-    rt: &HostRuntime,
-    rows: &'static [Row],
-) -> Result<Option<&'static str>, Fail> {
-    for words in [
-        "run p.xmtc",
-        "run p.xmtc --units 1",
-        "run p.xmtc --units 17 --seed 9",
-    ] {
-        let found = differing(rt, words, rows)?;
-        if found.is_some() {
-            return Ok(found);
-        }
-    }
-    Ok(None)
+    outcome(alloc, status.code, host.out.as_slice(), host.err.as_slice())
 }

@@ -1,4 +1,6 @@
-//! The quads of a program: of its expressions, statements and functions, as definitions.
+//! The quads of expressions, statements, functions and programs, as definitions. Law `quads_have_paid_traces`: they
+//! have the program's traces, by themselves and whatever is replied to their loads, with a work of at most 64 for
+//! each step of the source and 40 more.
 #![tactic(auto)]
 
 mod law;

@@ -1,4 +1,5 @@
-//! What the image of a quad program does.
+//! Law `images_have_paid_traces`: each trace of the image of a well-formed quad program is a trace of the quads,
+//! whose work is at least the number of instructions less 24, and at least that number once the thread has ended.
 #![tactic(auto)]
 
 ghost use Rattle.quad_image_law.specs.Law.{ImagesHavePaidTraces};

@@ -1,4 +1,4 @@
-//! What is tested of images holds of the image of a well-formed quad program.
+//! Law `images_are_valid`: the image of a well-formed quad program is valid.
 #![tactic(auto)]
 
 ghost use Rattle.quad_image_limits.specs.Limits.{ImagesAreValid};

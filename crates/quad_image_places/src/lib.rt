@@ -1,3 +1,2 @@
-//! Where the code of each quad stands in the image of a program, and which virtual registers live
-//! in the thread's own frame there.
+//! Lemmas: where the code of each quad stands in the image, and which registers live in the thread's own frame.
 #![tactic(auto)]

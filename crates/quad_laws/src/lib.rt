@@ -1,2 +1,2 @@
-//! What it is for a thread of quads to keep to a thread of the source, and the laws of that.
+//! Lemmas: when a thread of quads keeps to a thread of the source, and that a thread goes by its live registers.
 #![tactic(auto)]

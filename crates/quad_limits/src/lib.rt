@@ -1,5 +1,5 @@
-//! How heavy the quads of a program are, which virtual registers they name, and that all else that
-//! they name is there.
+//! Law `quads_keep_limits`: the quads of a program weigh at most 64 a node of its tree, their registers are those
+//! of the variables and as many more as values wait, and all else that they name is there.
 #![tactic(auto)]
 
 ghost use Rattle.quad_limits.specs.Limits.{NamesAreThere, QuadsAreLight, RegistersAreFew};

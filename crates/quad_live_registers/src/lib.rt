@@ -1,4 +1,5 @@
-//! Which registers are live in the quads of a program.
+//! Law `quads_have_live_registers`: in the quads that are stated for a program no register is live where a function
+//! begins, and a block writes none that is live where the block begins.
 #![tactic(auto)]
 
 ghost use Rattle.quad_live_registers.specs.Law.{QuadsHaveLiveRegisters};

@@ -1,4 +1,5 @@
-//! How blocks and jumps nest in the quads of a program.
+//! Law `quads_have_regions`: in the quads that are stated for a program each spawn has its join, and jumps lead
+//! into blocks from inside them alone.
 #![tactic(auto)]
 
 ghost use Rattle.quad_regions.specs.Law.{QuadsHaveRegions};

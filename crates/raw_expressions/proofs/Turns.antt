@@ -1,18 +1,22 @@
 -- One turn of the readers, as the code makes it.
-use Rattle.std.proofs.Common.{◌≡◌, ℕ, zero, suc, max, ◌+◌, ◌-◌, ◌<◌, ◌≤◌, Bool, true, false, nat_lt, ◌==◌, List, [], ◌∷◌, Option, Some, None, Result, Err, refl, ap, subst, ◌∙◌, arith, add-one}
+use Rattle.std.proofs.Common.{◌≡◌, ℕ, zero, suc, max, ◌+◌, ◌-◌, ◌<◌, ◌≤◌, Bool, true, false, nat_lt, ◌==◌, List, [], ◌∷◌, Option, Some, None, Result, Err, length, get_or, take, drop, refl, sym, ap, subst, ◌∙◌, arith, add-one}
+use Rattle.std.proofs.lemmas.List.{take_all}
 use Rattle.std.proofs.lemmas.Bool.Decides.{nat_tests}
 use Rattle.xmt_lex.specs.declared.Token.{Token}
 use Rattle.raw_tree.specs.declared.tree.RawExpr.{RawExpr}
+use Rattle.raw_tree.specs.declared.tree.RawExprKind.{RawExprKind}
+use Rattle.raw_tree.specs.declared.tree.RawExprKind.TheVariants as e
+use Rattle.xmt_base.specs.declared.Place.{Place}
 use Rattle.raw_expressions.specs.declared.levels.Part.{Part}
 use Rattle.raw_expressions.specs.declared.levels.Part.TheVariants as part
 use Rattle.raw_tree.specs.Level.{Tokens, Tight, Cond, Whole, joins}
-use Rattle.raw_tree.specs.Reading.{Reader, GotExpr, got, mark_of, chain, chained, read_unary, read_binary, readers, read_at}
+use Rattle.raw_tree.specs.Reading.{Reader, GotExpr, got, mark_of, chain, chained, read_unary, read_binary, readers, read_at, assigned, assigned_kind}
 use Rattle.xmt_lex.specs.declared.kinds.Mark.{Mark}
 use Rattle.raw_tree.specs.declared.read.Read.{Read}
 use Rattle.raw_tree.specs.declared.read.ReadError.{ReadError}
 use Rattle.raw_tree.specs.declared.read.ReadError.TheVariants.{Syntax, NoMemory}
 use Rattle.raw_tree.specs.Gives.{Gives}
-use Rattle.raw_expressions.specs.Parts.{part_of, joined}
+use Rattle.raw_expressions.specs.Parts.{part_of, joined, spot_of, assigned_spot, assigned_by}
 use Rattle.raw_tree.proofs.Chain.{same, chain_turn}
 
 module _ (source : List ℕ) where
@@ -127,3 +131,26 @@ module _ (d k : ℕ) (op : Reader) (a : RawExpr) (n : ℕ) where
       let turn = chain_turn (suc d) (suc (suc k)) op (suc d) t a right.tree n right.nest more right.rest (omega arith) found (omega arith) (omega arith) in
       let next : both ≡ joined (mark_of t.kind) a n right = whole ∙ ap (λ (q : Mark). joined q a n right) mark in
       rw (is, turn) (subst (λ (g : GotExpr). Gives result (chain (suc d) (suc (suc k)) op (suc d) g.tree g.nest g.rest)) next after)
+
+-- an assignment, once its place and its value are read
+by_spot : (depth : ℕ) (whole : Reader) (p : Place) (k : RawExprKind) (m : Mark) (n : ℕ) (ts : Tokens) (g : GotExpr) → whole ts ≡ Some g → assigned_kind depth whole p k m n ts ≡ assigned_spot p m n g (spot_of k)
+by_spot depth whole p (e.Read s) m n ts g found = rw found
+by_spot depth whole p _ m n ts g found = refl
+
+assigned_on : (depth : ℕ) (whole : Reader) (r : Result (Read RawExpr) ReadError) (a : RawExpr) (n : ℕ) (ts : Tokens) (none : Token) (j : ℕ) (m : Mark) (g : GotExpr) →
+    1 ≤ length ts → j ≡ joins (get_or ts 0 none).kind → j ≡ 13 → m ≡ mark_of (get_or ts 0 none).kind → whole (take (length ts - 1) (drop 1 ts)) ≡ Some g → Gives r (assigned_by a m n g) → Gives r (assigned depth whole a n ts)
+assigned_on depth whole r a n [] none j m g some joined here mark found gives = absurd (omega (arith, some))
+assigned_on depth whole r a n (t ∷ ts) none j m g some joined here mark found gives =
+    let all : take (length (t ∷ ts) - 1) ts ≡ ts = take_all _ ts (omega arith) in
+    let value : whole ts ≡ Some g = ap whole (sym all) ∙ found in
+    let together : (joins t.kind == 13) ≡ true = same (joins t.kind) 13 (omega arith) in
+    let step : assigned depth whole a n (t ∷ ts) ≡ assigned_by a m n g =
+    rw (mark, together) (by_spot depth whole a.at a.kind (mark_of t.kind) n ts g value)
+    in
+    subst (λ (x : Option GotExpr). Gives r x) (sym step) gives
+
+pub assigned_goes : (source : List ℕ) (d : ℕ) (r : Result (Read RawExpr) ReadError) (ts : Tokens) (place : GotExpr) (none : Token) (j : ℕ) (m : Mark) (g : GotExpr) →
+    read_at source d Cond ts ≡ Some place → 1 ≤ length place.rest → j ≡ joins (get_or place.rest 0 none).kind → j ≡ 13 → m ≡ mark_of (get_or place.rest 0 none).kind →
+    (readers source d).of_expr (take (length place.rest - 1) (drop 1 place.rest)) ≡ Some g → Gives r (assigned_by place.tree m place.nest g) → Gives r (read_at source d Whole ts)
+assigned_goes source d r ts place none j m g read some joined here mark found gives =
+    rw read (assigned_on (suc d) (readers source d).of_expr r place.tree place.nest place.rest none j m g some joined here mark found gives)

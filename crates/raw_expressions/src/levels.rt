@@ -3,19 +3,20 @@
 ghost use Rattle.std.specs.Prelude.{MatchOption, [], ◌∷◌, ◌≡◌, ◌≤◌, ◌<◌, ◌+◌, ◌^◌, IfOk, suc};
 ghost use Rattle.raw_tree.specs.Reading as spec;
 ghost use Rattle.raw_tree.specs.Level as level;
+ghost use Rattle.raw_tree.specs.Grammar as grammar;
 ghost use Rattle.raw_tree.specs.Gives as gives;
 ghost use Rattle.raw_expressions.specs.Parts as parts;
 
 use crate::nodes::{
-    assigned_by, bracketed, called, choose_with, indexed, joined, node, prefixed, stepped,
-    stepped_before, values_close,
+    assigned_by, boxed_spot, bracketed, called, choose_with, indexed, joined, leaf, prefixed,
+    stepped, stepped_before, values_close,
 };
 use raw_tree::kinds::{
     Expected, close_round, colon, is_prefix, is_step, joins, mark_of, open_round, open_square,
 };
 use raw_tree::read::{Read, ReadError, behind, name_of};
-use raw_tree::{RawExpr, RawExprKind, RawName, RawSpot};
-use sqlite_items::Items;
+use raw_tree::{RawExpr, RawExprKind, RawSpot};
+use sqlite_items::{Boxed, Items};
 use std::alloc::Global;
 use xmt_lex::{Mark, Token, TokenKind};
 
@@ -45,7 +46,7 @@ fn inside<'a>(
     d: u32,
     part: Part,
     ts: &'a [Token],
-) -> Result<Read<'a, RawExpr>, ReadError>
+) -> Result<Read<'a, Boxed<RawExpr>>, ReadError>
     requires { d < 2 ^ 20 }
     ensures value { gives.Gives result (parts.part_of part (spec.readers source.now d) ts.now) }
     ensures nest { IfOk result (λ r. r.nest ≤ d) }
@@ -66,23 +67,26 @@ fn behind_name<'a>(
     alloc: Global,
     source: &[u8],
     d: u32,
-    name: RawName,
+    t: Token,
     ts: &'a [Token],
 ) -> Result<Read<'a, RawSpot>, ReadError>
     requires { d < 2 ^ 20 }
-    ensures value { gives.Gives result (spec.read_spot (spec.readers source.now d).of_expr name ts.now) }
+    ensures value { gives.Gives result (spec.read_spot (spec.readers source.now d).of_expr (grammar.name_of source.now t) ts.now) }
     ensures nest { IfOk result (λ r. r.nest ≤ d) }
 {
     match ts {
         [o, more @ ..] if open_square(o.kind) => {
             let inner = inside(alloc, source, d, Part::Whole, more)?;
-            indexed(alloc, name, inner)
+            indexed(alloc, source, t, inner)
         }
-        _ => Ok(Read {
-            tree: RawSpot::Name(name),
-            nest: 0,
-            rest: ts,
-        }),
+        _ => {
+            let name = name_of(alloc, source, t)?;
+            Ok(Read {
+                tree: RawSpot::Name(name),
+                nest: 0,
+                rest: ts,
+            })
+        }
     }
 }
 
@@ -109,7 +113,7 @@ fn list<'a>(
             nest: inner,
             rest,
         } = one;
-        values.push(tree)?;
+        values.push(tree.into_inner())?;
         nest = inner.max(nest);
         match behind(Expected::Comma, rest) {
             None => {
@@ -167,20 +171,19 @@ fn named<'a>(
     d: u32,
     t: Token,
     ts: &'a [Token],
-) -> Result<Read<'a, RawExpr>, ReadError>
+) -> Result<Read<'a, Boxed<RawExpr>>, ReadError>
     requires { d < 2 ^ 20 }
     ensures value { gives.Gives result (spec.named source.now (spec.readers source.now d).of_expr t ts.now) }
     ensures nest { IfOk result (λ r. r.nest ≤ d + 1) }
 {
-    let name = name_of(alloc, source, t)?;
     match ts {
         [o, more @ ..] if open_round(o.kind) => {
             let values = call_values(alloc, source, d, more)?;
-            Ok(called(t.place, name, values))
+            called(alloc, source, t, values)
         }
         _ => {
-            let place = behind_name(alloc, source, d, name, ts)?;
-            Ok(stepped(t.place, place))
+            let place = behind_name(alloc, source, d, t, ts)?;
+            stepped(alloc, t.place, place)
         }
     }
 }
@@ -192,23 +195,15 @@ fn begun<'a>(
     d: u32,
     t: Token,
     ts: &'a [Token],
-) -> Result<Read<'a, RawExpr>, ReadError>
+) -> Result<Read<'a, Boxed<RawExpr>>, ReadError>
     requires { d < 2 ^ 20 }
     ensures value { gives.Gives result (spec.begun source.now (spec.readers source.now d).of_expr t t.kind ts.now) }
     ensures nest { IfOk result (λ r. r.nest ≤ d + 1) }
 {
     match t.kind {
-        TokenKind::Number(v) => Ok(Read {
-            tree: node(t.place, RawExprKind::Number(v)),
-            nest: 1,
-            rest: ts,
-        }),
+        TokenKind::Number(v) => leaf(alloc, t.place, RawExprKind::Number(v), ts),
         TokenKind::Name => named(alloc, source, d, t, ts),
-        TokenKind::Mark(Mark::Dollar) => Ok(Read {
-            tree: node(t.place, RawExprKind::Dollar),
-            nest: 1,
-            rest: ts,
-        }),
+        TokenKind::Mark(Mark::Dollar) => leaf(alloc, t.place, RawExprKind::Dollar, ts),
         TokenKind::Mark(Mark::OpenRound) => {
             let inner = inside(alloc, source, d, Part::Whole, ts)?;
             bracketed(alloc, t.place, inner)
@@ -223,7 +218,7 @@ fn unary<'a>(
     source: &[u8],
     d: u32,
     ts: &'a [Token],
-) -> Result<Read<'a, RawExpr>, ReadError>
+) -> Result<Read<'a, Boxed<RawExpr>>, ReadError>
     requires { d < 2 ^ 20 }
     ensures value { gives.Gives result (spec.read_unary source.now (spec.readers source.now d).of_expr (spec.readers source.now d).of_unary ts.now) }
     ensures nest { IfOk result (λ r. r.nest ≤ d + 1) }
@@ -237,9 +232,8 @@ fn unary<'a>(
                 } else if is_step(m) {
                     match more {
                         [u, most @ ..] if u.kind == TokenKind::Name => {
-                            let name = name_of(alloc, source, *u)?;
-                            let place = behind_name(alloc, source, d, name, most)?;
-                            Ok(stepped_before(t.place, m, place))
+                            let place = behind_name(alloc, source, d, *u, most)?;
+                            stepped_before(alloc, t.place, m, place)
                         }
                         _ => Err(ReadError::Syntax(more.len())),
                     }
@@ -259,8 +253,8 @@ fn chain<'a>(
     source: &[u8],
     d: u32,
     k: u32,
-    left: Read<'a, RawExpr>,
-) -> Result<Read<'a, RawExpr>, ReadError>
+    left: Read<'a, Boxed<RawExpr>>,
+) -> Result<Read<'a, Boxed<RawExpr>>, ReadError>
     requires depth { d < 2 ^ 20 }
     requires rank { k < 10 }
     requires nest { left.nest ≤ d + 1 }
@@ -297,7 +291,7 @@ fn binary<'a>(
     d: u32,
     k: u32,
     ts: &'a [Token],
-) -> Result<Read<'a, RawExpr>, ReadError>
+) -> Result<Read<'a, Boxed<RawExpr>>, ReadError>
     requires depth { d < 2 ^ 20 }
     requires rank { k ≤ 10 }
     ensures value { gives.Gives result (spec.read_at source.now d (level.Tight k) ts.now) }
@@ -315,9 +309,9 @@ fn chosen<'a>(
     alloc: Global,
     source: &[u8],
     d: u32,
-    test: Read<'a, RawExpr>,
-    middle: Read<'a, RawExpr>,
-) -> Result<Read<'a, RawExpr>, ReadError>
+    test: Read<'a, Boxed<RawExpr>>,
+    middle: Read<'a, Boxed<RawExpr>>,
+) -> Result<Read<'a, Boxed<RawExpr>>, ReadError>
     requires depth { d < 2 ^ 20 }
     requires test { test.nest ≤ d }
     requires middle { middle.nest ≤ d }
@@ -339,7 +333,7 @@ fn cond<'a>(
     source: &[u8],
     d: u32,
     ts: &'a [Token],
-) -> Result<Read<'a, RawExpr>, ReadError>
+) -> Result<Read<'a, Boxed<RawExpr>>, ReadError>
     requires { d < 2 ^ 20 }
     ensures value { gives.Gives result (spec.read_at source.now d level.Cond ts.now) }
     ensures nest { IfOk result (λ r. r.nest ≤ d + 1) }
@@ -364,7 +358,7 @@ fn whole<'a>(
     source: &[u8],
     d: u32,
     ts: &'a [Token],
-) -> Result<Read<'a, RawExpr>, ReadError>
+) -> Result<Read<'a, Boxed<RawExpr>>, ReadError>
     requires { d < 2 ^ 20 }
     ensures value { gives.Gives result (spec.read_at source.now d level.Whole ts.now) }
     ensures nest { IfOk result (λ r. r.nest ≤ d + 1) }
@@ -387,7 +381,7 @@ pub fn read_part<'a>(
     depth: u32,
     part: Part,
     ts: &'a [Token],
-) -> Result<Read<'a, RawExpr>, ReadError>
+) -> Result<Read<'a, Boxed<RawExpr>>, ReadError>
     requires { depth < 2 ^ 20 }
     ensures { gives.Gives result (parts.part_of part (spec.readers source.now depth) ts.now) }
 {
@@ -400,7 +394,7 @@ pub fn expression<'a>(
     source: &[u8],
     depth: u32,
     ts: &'a [Token],
-) -> Result<Read<'a, RawExpr>, ReadError>
+) -> Result<Read<'a, Boxed<RawExpr>>, ReadError>
     requires { depth < 2 ^ 20 }
     ensures { gives.Gives result (spec.expression source.now depth ts.now) }
 {
@@ -426,7 +420,7 @@ pub fn place<'a>(
     source: &[u8],
     depth: u32,
     ts: &'a [Token],
-) -> Result<Read<'a, RawSpot>, ReadError>
+) -> Result<Read<'a, Boxed<RawSpot>>, ReadError>
     requires { depth < 2 ^ 20 }
     ensures { gives.Gives result (spec.step_place source.now (spec.expression source.now depth) ts.now) }
 {
@@ -434,8 +428,8 @@ pub fn place<'a>(
         [] => Err(ReadError::Syntax(0)),
         [t, more @ ..] => match t.kind {
             TokenKind::Name => {
-                let name = name_of(alloc, source, *t)?;
-                behind_name(alloc, source, depth, name, more)
+                let spot = behind_name(alloc, source, depth, *t, more)?;
+                boxed_spot(alloc, spot)
             }
             _ => Err(ReadError::Syntax(ts.len())),
         },

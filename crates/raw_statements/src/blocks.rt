@@ -7,17 +7,15 @@ ghost use Rattle.raw_tree.specs.ReadingStatements as code;
 ghost use Rattle.raw_statements.specs.Heads as heads;
 
 use crate::statement_nodes::{
-    Tested, block, empty, for_loop, if_alone, if_else, spawn, statement, test_and_branch,
-    while_loop,
+    Tested, block, for_loop, if_alone, if_else, spawn, test_and_branch, while_loop,
 };
 use crate::statements::{
-    declare_at, read_do_behind, read_for_head, read_print, read_ps, read_psm, read_return,
-    read_round, read_spawn_head, read_value, read_word_alone,
+    declare_at, read_do_behind, read_for_head, read_round, read_simple, read_spawn_head,
 };
+use raw_tree::RawStmt;
 use raw_tree::kinds::{Expected, begins_type};
 use raw_tree::read::{Read, ReadError, behind};
-use raw_tree::{RawStmt, RawStmtKind};
-use sqlite_items::Items;
+use sqlite_items::{Boxed, Items};
 use std::alloc::Global;
 use xmt_lex::{Keyword, Mark, Token, TokenKind};
 
@@ -28,7 +26,7 @@ pub fn read_statement<'a>(
     source: &[u8],
     depth: u32,
     ts: &'a [Token],
-) -> Result<Read<'a, RawStmt>, ReadError>
+) -> Result<Read<'a, Boxed<RawStmt>>, ReadError>
     requires { depth < 2 ^ 20 }
     ensures { gives.Gives result (code.read_stmt source.now depth ts.now) }
 {
@@ -46,34 +44,20 @@ fn begun<'a>(
     source: &[u8],
     d: u32,
     ts: &'a [Token],
-) -> Result<Read<'a, RawStmt>, ReadError>
+) -> Result<Read<'a, Boxed<RawStmt>>, ReadError>
     requires { d < 2 ^ 20 }
     ensures { gives.Gives result (code.stmt_of source.now (spec.expression source.now d) (spec.expression source.now (pred d)) (code.read_stmt source.now d) (code.read_piece source.now d) ts.now) }
 {
     match ts {
         [] => Err(ReadError::Syntax(0)),
         [t, more @ ..] => match t.kind {
-            TokenKind::Mark(Mark::Semicolon) => Ok(empty(t.place, more)),
             TokenKind::Mark(Mark::OpenCurly) => read_block(alloc, source, d, *t, more),
             TokenKind::Keyword(Keyword::If) => read_if(alloc, source, d, *t, more),
             TokenKind::Keyword(Keyword::While) => read_while(alloc, source, d, *t, more),
             TokenKind::Keyword(Keyword::Do) => read_do(alloc, source, d, *t, more),
             TokenKind::Keyword(Keyword::For) => read_for(alloc, source, d, *t, more),
-            TokenKind::Keyword(Keyword::Break) => {
-                read_word_alone(statement(t.place, RawStmtKind::Break), more)
-            }
-            TokenKind::Keyword(Keyword::Continue) => {
-                read_word_alone(statement(t.place, RawStmtKind::Continue), more)
-            }
-            TokenKind::Keyword(Keyword::Return) => read_return(alloc, source, d, *t, more),
             TokenKind::Keyword(Keyword::Spawn) => read_spawn(alloc, source, d, *t, more),
-            TokenKind::Keyword(Keyword::Ps) => read_ps(alloc, source, *t, more),
-            TokenKind::Keyword(Keyword::Psm) => read_psm(alloc, source, d, *t, more),
-            TokenKind::Keyword(Keyword::Printf) => read_print(alloc, source, d, *t, more),
-            TokenKind::Keyword(Keyword::Int)
-            | TokenKind::Keyword(Keyword::Const)
-            | TokenKind::Keyword(Keyword::Volatile) => Err(ReadError::Syntax(ts.len())),
-            _ => read_value(alloc, source, d, ts),
+            _ => read_simple(alloc, source, d, ts),
         },
     }
 }
@@ -85,12 +69,12 @@ fn read_block<'a>(
     d: u32,
     t: Token,
     ts: &'a [Token],
-) -> Result<Read<'a, RawStmt>, ReadError>
+) -> Result<Read<'a, Boxed<RawStmt>>, ReadError>
     requires { d < 2 ^ 20 }
     ensures { gives.Gives result (code.read_block (code.read_piece source.now d) t ts.now) }
 {
     let body = read_body(alloc, source, d, ts)?;
-    Ok(block(t.place, body))
+    block(alloc, t.place, body)
 }
 
 #[cycle(statements)]
@@ -100,7 +84,7 @@ fn read_if<'a>(
     d: u32,
     t: Token,
     ts: &'a [Token],
-) -> Result<Read<'a, RawStmt>, ReadError>
+) -> Result<Read<'a, Boxed<RawStmt>>, ReadError>
     requires { d < 2 ^ 20 }
     ensures { gives.Gives result (code.read_if (spec.expression source.now d) (code.read_stmt source.now d) t ts.now) }
 {
@@ -122,7 +106,7 @@ fn read_else<'a>(
     t: Token,
     part: Read<'a, Tested>,
     ts: &'a [Token],
-) -> Result<Read<'a, RawStmt>, ReadError>
+) -> Result<Read<'a, Boxed<RawStmt>>, ReadError>
     requires { d < 2 ^ 20 }
     ensures { gives.Gives result (code.with_else t part.entry.tree.test part.entry.tree.branch (code.read_stmt source.now d ts.now)) }
 {
@@ -137,7 +121,7 @@ fn read_while<'a>(
     d: u32,
     t: Token,
     ts: &'a [Token],
-) -> Result<Read<'a, RawStmt>, ReadError>
+) -> Result<Read<'a, Boxed<RawStmt>>, ReadError>
     requires { d < 2 ^ 20 }
     ensures { gives.Gives result (code.read_while (spec.expression source.now d) (code.read_stmt source.now d) t ts.now) }
 {
@@ -153,7 +137,7 @@ fn read_do<'a>(
     d: u32,
     t: Token,
     ts: &'a [Token],
-) -> Result<Read<'a, RawStmt>, ReadError>
+) -> Result<Read<'a, Boxed<RawStmt>>, ReadError>
     requires { d < 2 ^ 20 }
     ensures { gives.Gives result (code.read_do (spec.expression source.now d) (code.read_stmt source.now d) t ts.now) }
 {
@@ -168,11 +152,11 @@ fn read_for<'a>(
     d: u32,
     t: Token,
     ts: &'a [Token],
-) -> Result<Read<'a, RawStmt>, ReadError>
+) -> Result<Read<'a, Boxed<RawStmt>>, ReadError>
     requires { d < 2 ^ 20 }
     ensures { gives.Gives result (heads.for_in_parts source.now (spec.expression source.now d) (spec.expression source.now (pred d)) (code.read_stmt source.now d) t ts.now) }
 {
-    let head = read_for_head(alloc, source, d, d.saturating_sub(1), ts)?;
+    let head = read_for_head(alloc, source, d, ts)?;
     let body = read_statement(alloc, source, d, head.rest)?;
     for_loop(alloc, t.place, head, body)
 }
@@ -184,7 +168,7 @@ fn read_spawn<'a>(
     d: u32,
     t: Token,
     ts: &'a [Token],
-) -> Result<Read<'a, RawStmt>, ReadError>
+) -> Result<Read<'a, Boxed<RawStmt>>, ReadError>
     requires { d < 2 ^ 20 }
     ensures { gives.Gives result (heads.spawn_in_parts (spec.expression source.now d) (code.read_piece source.now d) t ts.now) }
 {
@@ -200,7 +184,7 @@ fn read_piece<'a>(
     source: &[u8],
     d: u32,
     ts: &'a [Token],
-) -> Result<Read<'a, RawStmt>, ReadError>
+) -> Result<Read<'a, Boxed<RawStmt>>, ReadError>
     requires { d < 2 ^ 20 }
     ensures { gives.Gives result (code.read_piece source.now d ts.now) }
 {
@@ -245,7 +229,7 @@ pub fn read_body<'a>(
                 }
                 let one = read_piece(alloc, source, d, left)?;
                 let Read { tree, rest, .. } = one;
-                all.push(tree)?;
+                all.push(tree.into_inner())?;
                 turns -= 1;
                 left = rest;
             }

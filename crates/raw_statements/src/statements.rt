@@ -1,23 +1,26 @@
 //! Reads the statements that hold no other statement, and the parts of the others, from the front of some tokens.
 
-ghost use Rattle.std.specs.Prelude.{◌<◌, ◌^◌};
+ghost use Rattle.std.specs.Prelude.{◌≡◌, ◌<◌, ◌≤◌, ◌^◌, pred};
 ghost use Rattle.raw_tree.specs.Gives as gives;
 ghost use Rattle.raw_tree.specs.Reading as spec;
 ghost use Rattle.raw_tree.specs.ReadingStatements as code;
+ghost use Rattle.raw_tree.specs.Statements as grammar;
+ghost use Rattle.raw_tree.specs.declared.tree.RawStmtKind.TheVariants as s;
 ghost use Rattle.raw_statements.specs.Heads as heads;
 
 use crate::declarations::{read_decl, read_maybe, read_text};
 use crate::statement_nodes::{
-    Bounds, ForHead, alone, before, declare, do_loop, first_decl, first_value, for_parts,
-    low_and_high, print, ps, psm, return_value, value,
+    Bounds, ForHead, alone, declare, do_loop, first_decl, first_value, for_parts, low_and_high,
+    print, ps, psm, return_value, value,
 };
 use raw_expressions::{expression, expressions, place};
 use raw_tree::kinds::{Expected, begins_type};
-use raw_tree::read::{Read, ReadError, behind, past, read_name};
-use raw_tree::{RawExpr, RawFirst, RawStmt};
-use sqlite_items::Items;
+use raw_tree::read::{Read, ReadError, behind, followed_by, past, read_name};
+use raw_tree::{RawExpr, RawFirst, RawStmt, RawStmtKind};
+use sqlite_items::{Boxed, Items};
 use std::alloc::Global;
-use xmt_lex::Token;
+use xmt_base::Place;
+use xmt_lex::{Keyword, Mark, Token, TokenKind};
 
 // An expression in round brackets.
 pub fn read_round<'a>(
@@ -25,14 +28,13 @@ pub fn read_round<'a>(
     source: &[u8],
     d: u32,
     ts: &'a [Token],
-) -> Result<Read<'a, RawExpr>, ReadError>
+) -> Result<Read<'a, Boxed<RawExpr>>, ReadError>
     requires { d < 2 ^ 20 }
     ensures { gives.Gives result (code.read_round (spec.expression source.now d) ts.now) }
 {
     let inner = past(Expected::OpenRound, ts)?;
     let a = expression(alloc, source, d, inner)?;
-    let rest = past(Expected::CloseRound, a.rest)?;
-    Ok(before(a, rest))
+    followed_by(Expected::CloseRound, a)
 }
 
 // The first part of a `for`, with its semicolon.
@@ -41,7 +43,7 @@ pub fn read_first<'a>(
     source: &[u8],
     d: u32,
     ts: &'a [Token],
-) -> Result<Read<'a, RawFirst>, ReadError>
+) -> Result<Read<'a, Boxed<RawFirst>>, ReadError>
     requires { d < 2 ^ 20 }
     ensures { gives.Gives result (code.read_first source.now (spec.expression source.now d) ts.now) }
 {
@@ -50,11 +52,11 @@ pub fn read_first<'a>(
         [t, ..] => {
             if begins_type(t.kind) {
                 let decl = read_decl(alloc, source, d, ts)?;
-                Ok(first_decl(decl))
+                first_decl(alloc, decl)
             } else {
                 let a = read_maybe(alloc, source, d, Expected::Semicolon, ts)?;
-                let rest = past(Expected::Semicolon, a.rest)?;
-                Ok(first_value(a, rest))
+                let a = followed_by(Expected::Semicolon, a)?;
+                first_value(alloc, a)
             }
         }
     }
@@ -80,80 +82,95 @@ fn read_behind<'a>(
     }
 }
 
-pub fn read_return<'a>(
+fn read_return<'a>(
     alloc: Global,
     source: &[u8],
     d: u32,
     t: Token,
     ts: &'a [Token],
-) -> Result<Read<'a, RawStmt>, ReadError>
+) -> Result<Read<'a, Boxed<RawStmt>>, ReadError>
     requires { d < 2 ^ 20 }
     ensures { gives.Gives result (code.read_return (spec.expression source.now d) t ts.now) }
 {
     let a = read_maybe(alloc, source, d, Expected::Semicolon, ts)?;
-    let rest = past(Expected::Semicolon, a.rest)?;
-    Ok(return_value(t.place, a, rest))
+    let a = followed_by(Expected::Semicolon, a)?;
+    return_value(alloc, t.place, a)
 }
 
-pub fn read_ps<'a>(
+fn read_ps<'a>(
     alloc: Global,
     source: &[u8],
     t: Token,
     ts: &'a [Token],
-) -> Result<Read<'a, RawStmt>, ReadError>
+) -> Result<Read<'a, Boxed<RawStmt>>, ReadError>
     ensures { gives.Gives result (code.read_ps source.now t ts.now) }
 {
     let inner = past(Expected::OpenRound, ts)?;
     let a = read_name(alloc, source, inner)?;
-    let second = past(Expected::Comma, a.rest)?;
-    let b = read_name(alloc, source, second)?;
-    let behind_all = past(Expected::CloseRound, b.rest)?;
-    let rest = past(Expected::Semicolon, behind_all)?;
-    Ok(ps(t.place, a, b, rest))
+    let a = followed_by(Expected::Comma, a)?;
+    let b = read_name(alloc, source, a.rest)?;
+    let b = followed_by(Expected::CloseRound, b)?;
+    let b = followed_by(Expected::Semicolon, b)?;
+    ps(alloc, t.place, a, b)
 }
 
-pub fn read_psm<'a>(
+fn read_psm<'a>(
     alloc: Global,
     source: &[u8],
     d: u32,
     t: Token,
     ts: &'a [Token],
-) -> Result<Read<'a, RawStmt>, ReadError>
+) -> Result<Read<'a, Boxed<RawStmt>>, ReadError>
     requires { d < 2 ^ 20 }
     ensures { gives.Gives result (code.read_psm source.now (spec.expression source.now d) t ts.now) }
 {
     let inner = past(Expected::OpenRound, ts)?;
     let a = read_name(alloc, source, inner)?;
-    let second = past(Expected::Comma, a.rest)?;
-    let b = place(alloc, source, d, second)?;
-    let behind_all = past(Expected::CloseRound, b.rest)?;
-    let rest = past(Expected::Semicolon, behind_all)?;
-    psm(alloc, t.place, a, b, rest)
+    let a = followed_by(Expected::Comma, a)?;
+    let b = place(alloc, source, d, a.rest)?;
+    let b = followed_by(Expected::CloseRound, b)?;
+    let b = followed_by(Expected::Semicolon, b)?;
+    psm(alloc, t.place, a, b)
 }
 
-pub fn read_print<'a>(
+fn read_print<'a>(
     alloc: Global,
     source: &[u8],
     d: u32,
     t: Token,
     ts: &'a [Token],
-) -> Result<Read<'a, RawStmt>, ReadError>
+) -> Result<Read<'a, Boxed<RawStmt>>, ReadError>
     requires { d < 2 ^ 20 }
     ensures { gives.Gives result (code.read_print source.now (spec.expression source.now d) t ts.now) }
 {
     let inner = past(Expected::OpenRound, ts)?;
     let a = read_text(alloc, source, inner)?;
     let b = read_behind(alloc, source, d, a.rest)?;
-    let behind_all = past(Expected::CloseRound, b.rest)?;
-    let rest = past(Expected::Semicolon, behind_all)?;
-    Ok(print(t.place, a, b, rest))
+    let b = followed_by(Expected::CloseRound, b)?;
+    let b = followed_by(Expected::Semicolon, b)?;
+    print(alloc, t.place, a, b)
 }
 
-pub fn read_word_alone<'a>(tree: RawStmt, ts: &'a [Token]) -> Result<Read<'a, RawStmt>, ReadError>
-    ensures { gives.Gives result (code.read_word_alone tree ts.now) }
+fn read_break<'a>(
+    alloc: Global,
+    at: Place,
+    ts: &'a [Token],
+) -> Result<Read<'a, Boxed<RawStmt>>, ReadError>
+    ensures { gives.Gives result (code.read_word_alone (grammar.statement at s.Break) ts.now) }
 {
     let rest = past(Expected::Semicolon, ts)?;
-    Ok(alone(tree, rest))
+    alone(alloc, at, RawStmtKind::Break, rest)
+}
+
+fn read_continue<'a>(
+    alloc: Global,
+    at: Place,
+    ts: &'a [Token],
+) -> Result<Read<'a, Boxed<RawStmt>>, ReadError>
+    ensures { gives.Gives result (code.read_word_alone (grammar.statement at s.Continue) ts.now) }
+{
+    let rest = past(Expected::Semicolon, ts)?;
+    alone(alloc, at, RawStmtKind::Continue, rest)
 }
 
 fn read_declare<'a>(
@@ -161,7 +178,7 @@ fn read_declare<'a>(
     source: &[u8],
     d: u32,
     ts: &'a [Token],
-) -> Result<Read<'a, RawStmt>, ReadError>
+) -> Result<Read<'a, Boxed<RawStmt>>, ReadError>
     requires { d < 2 ^ 20 }
     ensures { gives.Gives result (code.read_declare source.now (spec.expression source.now d) ts.now) }
 {
@@ -175,7 +192,7 @@ pub fn declare_at<'a>(
     source: &[u8],
     depth: u32,
     ts: &'a [Token],
-) -> Result<Read<'a, RawStmt>, ReadError>
+) -> Result<Read<'a, Boxed<RawStmt>>, ReadError>
     requires { depth < 2 ^ 20 }
     ensures { gives.Gives result (code.declare_at source.now depth ts.now) }
 {
@@ -186,18 +203,46 @@ pub fn declare_at<'a>(
     }
 }
 
-pub fn read_value<'a>(
+fn read_value<'a>(
     alloc: Global,
     source: &[u8],
     d: u32,
     ts: &'a [Token],
-) -> Result<Read<'a, RawStmt>, ReadError>
+) -> Result<Read<'a, Boxed<RawStmt>>, ReadError>
     requires { d < 2 ^ 20 }
     ensures { gives.Gives result (code.read_value (spec.expression source.now d) ts.now) }
 {
     let a = expression(alloc, source, d, ts)?;
-    let rest = past(Expected::Semicolon, a.rest)?;
-    value(alloc, a, rest)
+    let a = followed_by(Expected::Semicolon, a)?;
+    value(alloc, a)
+}
+
+/// A statement that holds no other, by its first token. A declaration is none.
+pub fn read_simple<'a>(
+    alloc: Global,
+    source: &[u8],
+    d: u32,
+    ts: &'a [Token],
+) -> Result<Read<'a, Boxed<RawStmt>>, ReadError>
+    requires { d < 2 ^ 20 }
+    ensures { gives.Gives result (heads.simple source.now (spec.expression source.now d) ts.now) }
+{
+    match ts {
+        [] => Err(ReadError::Syntax(0)),
+        [t, more @ ..] => match t.kind {
+            TokenKind::Mark(Mark::Semicolon) => alone(alloc, t.place, RawStmtKind::Empty, more),
+            TokenKind::Keyword(Keyword::Break) => read_break(alloc, t.place, more),
+            TokenKind::Keyword(Keyword::Continue) => read_continue(alloc, t.place, more),
+            TokenKind::Keyword(Keyword::Return) => read_return(alloc, source, d, *t, more),
+            TokenKind::Keyword(Keyword::Ps) => read_ps(alloc, source, *t, more),
+            TokenKind::Keyword(Keyword::Psm) => read_psm(alloc, source, d, *t, more),
+            TokenKind::Keyword(Keyword::Printf) => read_print(alloc, source, d, *t, more),
+            TokenKind::Keyword(Keyword::Int)
+            | TokenKind::Keyword(Keyword::Const)
+            | TokenKind::Keyword(Keyword::Volatile) => Err(ReadError::Syntax(ts.len())),
+            _ => read_value(alloc, source, d, ts),
+        },
+    }
 }
 
 /// A `do`, behind the statement inside.
@@ -206,36 +251,42 @@ pub fn read_do_behind<'a>(
     source: &[u8],
     d: u32,
     t: Token,
-    body: Read<'a, RawStmt>,
-) -> Result<Read<'a, RawStmt>, ReadError>
+    body: Read<'a, Boxed<RawStmt>>,
+) -> Result<Read<'a, Boxed<RawStmt>>, ReadError>
     requires { d < 2 ^ 20 }
     ensures { gives.Gives result (heads.do_behind (spec.expression source.now d) t body.entry.tree body.entry.rest.now) }
 {
     let behind_while = past(Expected::While, body.rest)?;
     let test = read_round(alloc, source, d, behind_while)?;
-    let rest = past(Expected::Semicolon, test.rest)?;
-    do_loop(alloc, t.place, body, test, rest)
+    let test = followed_by(Expected::Semicolon, test)?;
+    do_loop(alloc, t.place, body, test)
 }
 
-/// A `for` before the statement inside. Its first part has a nesting of at most less.
+// How deep the first part of a `for` may nest, since it is a statement of its own.
+fn depth_of_first(d: u32) -> u32
+    ensures value { result ≡ pred d }
+    ensures within { result ≤ d }
+{
+    d.saturating_sub(1)
+}
+
+/// A `for` before the statement inside.
 pub fn read_for_head<'a>(
     alloc: Global,
     source: &[u8],
     d: u32,
-    less: u32,
     ts: &'a [Token],
 ) -> Result<Read<'a, ForHead>, ReadError>
-    requires depth { d < 2 ^ 20 }
-    requires less { less < 2 ^ 20 }
-    ensures { gives.Gives result (heads.for_head source.now (spec.expression source.now d) (spec.expression source.now less) ts.now) }
+    requires { d < 2 ^ 20 }
+    ensures { gives.Gives result (heads.for_head source.now (spec.expression source.now d) (spec.expression source.now (pred d)) ts.now) }
 {
     let inner = past(Expected::OpenRound, ts)?;
-    let first = read_first(alloc, source, less, inner)?;
+    let first = read_first(alloc, source, depth_of_first(d), inner)?;
     let test = read_maybe(alloc, source, d, Expected::Semicolon, first.rest)?;
-    let behind_test = past(Expected::Semicolon, test.rest)?;
-    let third = read_maybe(alloc, source, d, Expected::CloseRound, behind_test)?;
-    let rest = past(Expected::CloseRound, third.rest)?;
-    Ok(for_parts(first, test, third, rest))
+    let test = followed_by(Expected::Semicolon, test)?;
+    let third = read_maybe(alloc, source, d, Expected::CloseRound, test.rest)?;
+    let third = followed_by(Expected::CloseRound, third)?;
+    Ok(for_parts(first, test, third))
 }
 
 // The last thread number of a `spawn`, up to and with the `{`.
@@ -244,14 +295,13 @@ fn read_last_thread<'a>(
     source: &[u8],
     d: u32,
     ts: &'a [Token],
-) -> Result<Read<'a, RawExpr>, ReadError>
+) -> Result<Read<'a, Boxed<RawExpr>>, ReadError>
     requires { d < 2 ^ 20 }
     ensures { gives.Gives result (heads.last_thread (spec.expression source.now d) ts.now) }
 {
     let high = expression(alloc, source, d, ts)?;
-    let behind_all = past(Expected::CloseRound, high.rest)?;
-    let rest = past(Expected::OpenCurly, behind_all)?;
-    Ok(before(high, rest))
+    let high = followed_by(Expected::CloseRound, high)?;
+    followed_by(Expected::OpenCurly, high)
 }
 
 /// A `spawn` before the statements inside.
@@ -266,7 +316,7 @@ pub fn read_spawn_head<'a>(
 {
     let inner = past(Expected::OpenRound, ts)?;
     let low = expression(alloc, source, d, inner)?;
-    let second = past(Expected::Comma, low.rest)?;
-    let high = read_last_thread(alloc, source, d, second)?;
+    let low = followed_by(Expected::Comma, low)?;
+    let high = read_last_thread(alloc, source, d, low.rest)?;
     Ok(low_and_high(low, high))
 }

@@ -1,4 +1,6 @@
-//! The tree of the grammar, what tokens spell it, and what single tokens tell a reader.
+//! The grammar as a relation, its raw tree, and the readers of it as functions on lists of tokens. `one_tree`: over
+//! one source a list of tokens spells at most one tree. The functions on single tokens answer what the definitions
+//! say. That what is read is spelled, and what is spelled is read, are lemmas here.
 #![tactic(auto)]
 
 ghost use Rattle.raw_tree.specs.Items as grammar;

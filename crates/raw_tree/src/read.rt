@@ -60,6 +60,21 @@ pub fn behind<'a>(expected: Expected, ts: &'a [Token]) -> Option<&'a [Token]>
     }
 }
 
+/// What was read, with the token that is wanted behind it taken too.
+pub fn followed_by<'a, T: Drop>(
+    expected: Expected,
+    read: Read<'a, T>,
+) -> Result<Read<'a, T>, ReadError>
+    ensures value { gives.Gives result (gives.with_end (passes expected) (gives.view read.entry)) }
+    ensures rest { gives.GivesRest result (spec.past (passes expected) read.entry.rest.now) }
+    ensures tree { IfOk result (λ r. r.tree ≡ read.entry.tree) }
+    ensures nest { IfOk result (λ r. r.nest ≡ read.entry.nest) }
+{
+    let Read { tree, nest, rest } = read;
+    let rest = past(expected, rest)?;
+    Ok(Read { tree, nest, rest })
+}
+
 pub fn name_of(alloc: Global, source: &[u8], t: Token) -> Result<RawName, AllocError>
     ensures { IfOk result (λ name. name ≡ grammar.name_of source.now t) }
 {

@@ -1,5 +1,5 @@
-//! That the program of a tree which breaks no rule of names and types is checked, once it meets no
-//! line of the table of spawn blocks.
+//! Laws: the program of a tree that the tokens of a source spell, where it breaks no rule of names and types, keeps
+//! to the limits, and is checked where it meets no line of the table of spawn blocks.
 #![tactic(auto)]
 
 ghost use Rattle.resolved_programs.specs.Law.{ResolvedProgramsAreChecked, ResolvedProgramsHaveFewNodes, ResolvedProgramsKeepLimits};

@@ -1,4 +1,6 @@
-//! What joins the log of a machine's run with the log of a program: the words of the table are the cells of the program, and each thread does its part as the image's traces say.
+//! Laws: a lawful log of the machine is lawful over the cells of a program too, and its replay there agrees with
+//! the words (`logs_are_lawful_over_cells`); each thread's part of it is one of the image's traces
+//! (`threads_do_their_parts`).
 #![tactic(auto)]
 
 ghost use Rattle.run_law.specs.Cells.{LogsAreLawfulOverCells, RisingLogsRiseOverCells, ProgramsAgreeAtFirst};

@@ -1,4 +1,5 @@
-//! Runs of the machine: their options and their ends.
+//! The options of runs of the machine, and how runs end. Definitions of types alone, on which each layer stands
+//! that sees an option.
 #![tactic(auto)]
 
 mod options;

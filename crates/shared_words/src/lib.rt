@@ -1,8 +1,8 @@
-//! Words that threads share, and passes: tokens by which each caller knows its part of the one history of the words.
-//!
-//! Every access to a word is an entry of that history, in the order in which the words saw them. A pass has seen a
-//! beginning of it, and all the entries of its own numbers stand there. Callers at once each have a pass of their own,
-//! cut off by `Words::split` and taken in again by `Words::merge`.
+//! Words that threads share, and the passes with which they are reached. Each `load`, `store` and `add` of `Words`
+//! appends one entry to one legal history, which extends all that the pass had seen; `enrol` draws a number that no
+//! earlier entry has; `merge` tells that no number was held by both; a sole pass has seen everything; `close`
+//! answers the replay of the history. No call takes a lock or tries again; that each is one atomic operation of the
+//! processor is tested.
 #![tactic(auto)]
 
 mod log;

@@ -1,7 +1,8 @@
 -- Where the globals lie: one after another, in order of declaration, from word 0 on.
-use Rattle.std.specs.Prelude.{ℕ, zero, suc, ◌+◌, ◌-◌, List, [], ◌∷◌, ◌++◌, ◌≤◌, length, replicate, sum_by}
+use Rattle.std.specs.Prelude.{ℕ, zero, suc, ◌+◌, ◌-◌, List, [], ◌∷◌, ◌++◌, ◌≤◌, length, map, take, replicate, sum_by}
 use Rattle.xmt_base.specs.declared.values.Symbol.{Symbol}
 use Rattle.source_meaning.specs.declared.tree.GlobalVar.{GlobalVar}
+use Rattle.source_meaning.specs.declared.tree.Program.{Program}
 
 -- the first word of the global with this number
 abbrev pub first_word : List GlobalVar → ℕ → ℕ
@@ -23,6 +24,10 @@ abbrev pub opening_words : List GlobalVar → List ℕ
 opening_words [] = []
 opening_words (global ∷ globals) =
     global.opening ++ replicate (global.length - length global.opening) 0 ++ opening_words globals
+
+-- what the eight prefix-sum registers open with: those of the program with their own values, and 0 behind them
+abbrev pub opening_registers : Program → List ℕ
+opening_registers program = take 8 (map (λ r. r.opening) program.registers ++ replicate 8 0)
 
 -- the globals as symbols, of which the first begins at this word
 abbrev pub symbols_from : (base : ℕ) → List GlobalVar → List Symbol

@@ -1,4 +1,5 @@
-//! What every tree has that the tokens of a source spell.
+//! Laws: in a tree that the tokens of a source spell the names are names, the texts can be printed, and no
+//! declaration is a branch or the body of a loop.
 #![tactic(auto)]
 
 ghost use Rattle.source_trees.specs.Law.{SpelledTreesAreFromSource, SpelledTreesHavePlainBranches};

@@ -1,5 +1,9 @@
-//! The steps of one unit of a valid image: what it does by itself, what it asks for, and what it
-//! makes of the replies.
+//! The steps of one unit of a loaded image. `advance` runs the unit's own instructions, at most as many as it is
+//! let, and says what comes then, each answer exactly where its cause holds: it has halted, it has stopped, its
+//! steps are the budget, its next instruction traps, it asks for something that is shared, or it goes on. `answer`
+//! makes of a unit and a reply what the machine's definition says, and counts the step. `trap_at` answers the trap
+//! at which a unit stands, with kind, line and thread, and none exactly where it stands at none. `piece` answers
+//! the bytes of a print, and alone takes memory. All keep that the unit stands where it may.
 #![tactic(auto)]
 
 mod ask;

@@ -1,7 +1,8 @@
-//! Rows of tests as data: programs of tests read them from TOML files and print a line for each.
+//! Rows of tests as data: programs of tests read them from TOML files and print a line for each. `verdict` answers
+//! `NAME: ok` exactly where what was found is what was wanted.
 //!
-//! A file has tables `[[row]]`, each with a `name` and with texts, whole numbers and lists of texts under keys of its
-//! own. So a new row needs no proof.
+//! A file has tables `[[row]]`, each with a `name` and with texts, whole numbers and lists of texts under keys of
+//! its own. So a new row needs no proof.
 #![tactic(auto)]
 
 mod lines;

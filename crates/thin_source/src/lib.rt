@@ -1,5 +1,5 @@
-//! Thin sources: globals, and a `main` of assignments and prints with at most one spawn, without
-//! branches, loops, calls and locals. A reader takes the bytes of one to its typed program.
+//! A small part of the language, stated by itself as a definition: which bytes are a thin source, and the program
+//! of each.
 #![tactic(auto)]
 
 mod expressions;

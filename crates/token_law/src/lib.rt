@@ -1,4 +1,5 @@
-//! The tokens that the lexer finds are those of the table of spellings: at each place the longest.
+//! Law `tokens_are_longest`: the tokens that `lex` answers are exactly the list in which, from left to right, each
+//! token is the longest spelling of the table in front of what is left behind blanks, comments and hash lines.
 #![tactic(auto)]
 
 ghost use Rattle.token_law.specs.Longest.{TokensAreLongest, AnswersAreLongest};

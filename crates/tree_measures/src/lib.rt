@@ -1,6 +1,6 @@
-//! How large a program is: its nodes, how deep it is nested, and how many values wait at most
-//! while an expression is computed. None of the calls takes memory, and each counts as far as its
-//! type goes.
+//! `node_count`, `nest_depth`, `waiting` and `statement_waiting` answer the number of nodes of a typed tree, its
+//! nesting, and how many values wait at most in an expression or a statement, or the greatest number of their type
+//! where the measure is above it.
 #![tactic(auto)]
 
 mod nesting;

@@ -1,2 +1,2 @@
-//! The typed program that a raw tree stands for, as definitions.
+//! The typed program that a raw tree stands for, as a definition.
 #![tactic(auto)]

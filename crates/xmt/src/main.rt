@@ -1,4 +1,5 @@
-//! The program: the top call over the words of the command line and the real host.
+//! The program: the top call over the words of the command line and the real host. `main` has no contract; its
+//! stored run shows it.
 #![tactic(auto)]
 
 use std::alloc::{AllocError, Global};

@@ -1,5 +1,9 @@
-//! What the whole toolchain shares: places in a source, traps, symbols and memories, the
-//! operators on numbers of 32 bits, names and printed texts, and the generator of picked runs.
+//! What the whole toolchain shares: places in a source, traps, symbols and memories, the operators, names and
+//! printed texts, and the generator of picked runs.
+//!
+//! `unary` and `binary` compute the operators on numbers of 32 bits, and `binary` answers none exactly where a
+//! division by 0 traps. `is_name` and `is_format` decide how a name is spelled and which texts can be printed.
+//! `Picker::pick` answers the stated number. The actions of a trace, of any code, are a definition here.
 #![tactic(auto)]
 
 mod formats;

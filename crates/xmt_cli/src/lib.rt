@@ -1,4 +1,7 @@
-//! The words of a call, and the job that they are.
+//! The words of a call. `read_words` answers the job that they are, and refuses exactly where they are none, but
+//! for want of memory. `jobs_are_spelled` says which words those are: `cc`, `sim` or `run` and then parts in any
+//! order, with one file, each option at most once and each number in its range; `cc` has `--out` alone, and the
+//! others don't have it.
 #![tactic(auto)]
 
 mod given;

@@ -5,6 +5,7 @@ use Rattle.std.specs.List.{Contains}
 use Rattle.xmt_base.specs.declared.values.TrapKind.TheVariants.{DivideByZero}
 use Rattle.xmt_base.specs.declared.values.Trap.{Trap}
 use Rattle.source_meaning.specs.declared.tree.Program.{Program}
+use Rattle.source_meaning.specs.Layout.{opening_registers}
 use Rattle.source_meaning.specs.Opened.{opened}
 use Rattle.source_meaning.specs.Run as source
 use Rattle.source_meaning.specs.Run.{Thread, Configuration, start, can_step, thread_numbers}
@@ -12,12 +13,11 @@ use Rattle.source_meaning.specs.Term.{Code, Done}
 use Rattle.source_meaning.proofs.Written.{function, program_of}
 use Rattle.xmt_isa.specs.declared.image.Image.{Image}
 use Rattle.xmt_isa.specs.declared.image.Instr.{Instr}
-use Rattle.lowered_quads.specs.Lowered.{register_values}
 use Rattle.xmt_compile.specs.Implements.{reached, is_under_way, Implements}
 
 -- ---- what definitions compute to
 
-registers_open : register_values (program_of [] (record { name = codes "x"; opening = 5 } ∷ record { name = codes "y"; opening = 7 } ∷ []) []) ≡ 5 ∷ 7 ∷ 0 ∷ 0 ∷ 0 ∷ 0 ∷ 0 ∷ 0 ∷ []
+registers_open : opening_registers (program_of [] (record { name = codes "x"; opening = 5 } ∷ record { name = codes "y"; opening = 7 } ∷ []) []) ≡ 5 ∷ 7 ∷ 0 ∷ 0 ∷ 0 ∷ 0 ∷ 0 ∷ 0 ∷ []
 registers_open = refl
 
 abbrev thread : Option Code → Thread

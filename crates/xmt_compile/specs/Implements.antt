@@ -5,10 +5,9 @@ use Rattle.std.specs.List.{Contains}
 use Rattle.xmt_base.specs.declared.values.TrapKind.{TrapKind}
 use Rattle.interleaving.specs.Actors.{turns_of}
 use Rattle.source_meaning.specs.declared.tree.Program.{Program}
-use Rattle.source_meaning.specs.Layout.{all_words, opening_words, symbols_from}
+use Rattle.source_meaning.specs.Layout.{all_words, opening_words, opening_registers, symbols_from}
 use Rattle.source_meaning.specs.Run as source
 use Rattle.source_meaning.specs.Run.{Configuration, has_ended, is_over, start, thread_numbers, words_held}
-use Rattle.lowered_quads.specs.Lowered.{register_values}
 use Rattle.xmt_isa.specs.declared.image.Image.{Image}
 use Rattle.xmt_isa.specs.declared.unit.Unit.{Unit}
 use Rattle.xmt_isa.specs.declared.unit.Next.TheVariants as next
@@ -24,7 +23,7 @@ use Rattle.xmt_isa.specs.Valid.{IsValid}
 pub record OpensWith (image : Image) (program : Program) : Type 0 where
   pub symbols : image.symbols ≡ symbols_from 0 program.globals
   pub words : image.words ≡ opening_words program.globals
-  pub registers : image.ps ≡ register_values program
+  pub registers : image.ps ≡ opening_registers program
 
 -- the words of the globals in the machine's table
 abbrev pub data_words : Image → (words : List ℕ) → List ℕ

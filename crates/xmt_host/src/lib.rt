@@ -1,5 +1,10 @@
-//! The host: all that the toolchain reaches outside itself, over real files and streams or in
-//! memory, and how a whole file is taken from it.
+//! The host: all that the toolchain reaches outside itself, over real files and streams or in memory.
+//!
+//! Each call (`read_at`, `put`, `print`, `complain`) says what it does to files, streams and counts, where the host
+//! tells them, and fails only where the count of faults rose. Both hosts meet this; each call of the one in memory
+//! that is listed to fail fails. `take_file` answers the whole file, or says why not: a fault only where the count
+//! rose, too long only where more than the limit was taken, and, where files are told, exactly where the file is
+//! longer.
 #![tactic(auto)]
 
 mod host;

@@ -1,4 +1,5 @@
-//! The tokens of a source, by first and longest token.
+//! The tokens of a source. `lex` answers exactly its tokens by first and longest token, and otherwise the kind and
+//! the place where a rule is first broken. Want of memory alone is free.
 #![tactic(auto)]
 
 ghost use Rattle.std.specs.Prelude.{◌≡◌, ◌<◌, ◌≤◌, ◌+◌, ◌^◌, length, slice_index, true, false};
@@ -253,6 +254,3 @@ pub fn lex(alloc: Global, bytes: &[u8]) -> Result<Vec<Token>, LexRefusal>
     }
     Ok(out)
 }
-
-#[cfg(test)]
-mod tests;

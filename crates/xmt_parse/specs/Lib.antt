@@ -1,3 +1,3 @@
 pub mod Deep
-pub mod Returns
+pub mod Heads
 pub mod Law

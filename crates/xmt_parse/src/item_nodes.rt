@@ -1,20 +1,22 @@
 //! Makes the nodes of items from the parts that were read.
 
-ghost use Rattle.std.specs.Prelude.{◌≡◌, Some, max};
+ghost use Rattle.std.specs.Prelude.{◌≡◌, IfOk, Some};
 ghost use Rattle.raw_tree.specs.Gives as gives;
+ghost use Rattle.raw_tree.specs.Grammar.{name_of};
 ghost use Rattle.raw_tree.specs.Items as grammar;
 ghost use Rattle.raw_tree.specs.Reading.{got};
 ghost use Rattle.raw_tree.specs.declared.tree.RawGlobal.TheVariants as global;
 ghost use Rattle.raw_tree.specs.declared.tree.RawItemKind.TheVariants as i;
 ghost use Rattle.raw_tree.specs.declared.tree.RawParams.TheVariants as params;
+ghost use Rattle.xmt_parse.specs.Heads as heads;
 
-use raw_tree::read::{Read, ReadError};
+use raw_tree::read::{Read, ReadError, name_of};
 use raw_tree::{
     RawExpr, RawGlobal, RawItem, RawItemKind, RawName, RawParam, RawParams, RawRegister, RawResult,
     RawStmt, RawType, RawValues,
 };
 use sqlite_items::{Boxed, Items};
-use std::alloc::Global;
+use std::alloc::{AllocError, Global};
 use xmt_base::Place;
 use xmt_lex::Token;
 
@@ -51,59 +53,71 @@ pub fn some_values<'a>(values: Read<'a, RawValues>) -> Read<'a, Option<RawValues
     }
 }
 
-pub fn scalar<'a>(name: RawName, value: Read<'a, Option<Boxed<RawExpr>>>) -> Read<'a, RawGlobal>
-    ensures { Some (gives.view result) ≡ got (global.Scalar name value.entry.tree) value.entry.nest value.entry.rest.now }
+// The global that `t` names.
+pub fn scalar<'a>(
+    alloc: Global,
+    source: &[u8],
+    t: Token,
+    value: Read<'a, Option<Boxed<RawExpr>>>,
+) -> Result<Read<'a, RawGlobal>, ReadError>
+    ensures { gives.Gives result (got (global.Scalar (name_of source.now t) value.entry.tree) value.entry.nest value.entry.rest.now) }
 {
     let Read { tree, nest, rest } = value;
-    Read {
+    let name = name_of(alloc, source, t)?;
+    Ok(Read {
         tree: RawGlobal::Scalar(name, tree),
         nest,
-        rest,
-    }
-}
-
-pub fn array<'a>(
-    alloc: Global,
-    name: RawName,
-    length: Read<'a, RawExpr>,
-    values: Read<'a, Option<RawValues>>,
-) -> Result<Read<'a, RawGlobal>, ReadError>
-    ensures { gives.Gives result (got (global.Array name length.entry.tree values.entry.tree) (max length.entry.nest values.entry.nest) values.entry.rest.now) }
-{
-    let Read {
-        tree: a,
-        nest: n,
-        ..
-    } = length;
-    let Read { tree, nest, rest } = values;
-    let a = Boxed::new(alloc, a)?;
-    Ok(Read {
-        tree: RawGlobal::Array(name, a, tree),
-        nest: n.max(nest),
         rest,
     })
 }
 
-pub fn open_array<'a>(name: RawName, values: Read<'a, RawValues>) -> Read<'a, RawGlobal>
-    ensures { Some (gives.view result) ≡ got (global.Open name values.entry.tree) values.entry.nest values.entry.rest.now }
+// The array that `t` names, of the length that was read.
+pub fn array<'a>(
+    alloc: Global,
+    source: &[u8],
+    t: Token,
+    length: Read<'a, Boxed<RawExpr>>,
+    values: Read<'a, Option<RawValues>>,
+) -> Result<Read<'a, RawGlobal>, ReadError>
+    ensures { gives.Gives result (heads.sized (name_of source.now t) (gives.view length.entry) (gives.view values.entry)) }
+{
+    let Read {
+        tree: size,
+        nest: inner,
+        ..
+    } = length;
+    let Read { tree, nest, rest } = values;
+    let name = name_of(alloc, source, t)?;
+    Ok(Read {
+        tree: RawGlobal::Array(name, size, tree),
+        nest: inner.max(nest),
+        rest,
+    })
+}
+
+// The array that `t` names, as long as its values are many.
+pub fn open_array<'a>(
+    alloc: Global,
+    source: &[u8],
+    t: Token,
+    values: Read<'a, RawValues>,
+) -> Result<Read<'a, RawGlobal>, ReadError>
+    ensures { gives.Gives result (got (global.Open (name_of source.now t) values.entry.tree) values.entry.nest values.entry.rest.now) }
 {
     let Read { tree, nest, rest } = values;
-    Read {
+    let name = name_of(alloc, source, t)?;
+    Ok(Read {
         tree: RawGlobal::Open(name, tree),
         nest,
         rest,
-    }
+    })
 }
 
-pub fn globals<'a>(
-    ty: Read<'a, RawType>,
-    all: Read<'a, Items<RawGlobal>>,
-    rest: &'a [Token],
-) -> Read<'a, RawItem>
-    ensures { Some (gives.view result) ≡ got (grammar.item ty.entry.tree.at (i.Globals ty.entry.tree all.entry.tree)) 0 rest.now }
+pub fn globals<'a>(ty: Read<'a, RawType>, all: Read<'a, Items<RawGlobal>>) -> Read<'a, RawItem>
+    ensures { Some (gives.view result) ≡ got (grammar.item ty.entry.tree.at (i.Globals ty.entry.tree all.entry.tree)) 0 all.entry.rest.now }
 {
     let Read { tree: ty, .. } = ty;
-    let Read { tree, .. } = all;
+    let Read { tree, rest, .. } = all;
     Read {
         tree: item(ty.at, RawItemKind::Globals(ty, tree)),
         nest: 0,
@@ -126,15 +140,10 @@ pub fn register<'a>(
     }
 }
 
-pub fn registers<'a>(
-    at: Place,
-    int: bool,
-    all: Read<'a, Items<RawRegister>>,
-    rest: &'a [Token],
-) -> Read<'a, RawItem>
-    ensures { Some (gives.view result) ≡ got (grammar.item at (i.Registers int all.entry.tree)) 0 rest.now }
+pub fn registers<'a>(at: Place, int: bool, all: Read<'a, Items<RawRegister>>) -> Read<'a, RawItem>
+    ensures { Some (gives.view result) ≡ got (grammar.item at (i.Registers int all.entry.tree)) 0 all.entry.rest.now }
 {
-    let Read { tree, .. } = all;
+    let Read { tree, rest, .. } = all;
     Read {
         tree: item(at, RawItemKind::Registers(int, tree)),
         nest: 0,
@@ -168,33 +177,64 @@ pub fn some_params<'a>(all: Read<'a, Items<RawParam>>) -> Read<'a, RawParams>
     }
 }
 
+/// What stands before the name of a function; `main` may stand alone.
+#[derive(Clone, Copy, Debug, PartialEq, Eq)]
+pub enum Returns {
+    Int,
+    Void,
+    Main,
+}
+
+/// The head of a function before its parameters, with the token of its name.
+#[derive(Clone, Copy)]
+pub struct Head {
+    pub at: Place,
+    pub returns: Returns,
+    pub name: Token,
+}
+
+fn result_of(alloc: Global, source: &[u8], head: Head) -> Result<RawResult, AllocError>
+    ensures { IfOk result (λ made. made ≡ heads.result_of source.now head) }
+{
+    let name = name_of(alloc, source, head.name)?;
+    Ok(match head.returns {
+        Returns::Int => RawResult::Int(name),
+        Returns::Void => RawResult::Void(name),
+        Returns::Main => RawResult::Main(name),
+    })
+}
+
 pub fn function<'a>(
-    at: Place,
-    head: RawResult,
+    alloc: Global,
+    source: &[u8],
+    head: Head,
     all: RawParams,
     body: Read<'a, Items<RawStmt>>,
-) -> Read<'a, RawItem>
-    ensures { Some (gives.view result) ≡ got (grammar.item at (i.Function head all body.entry.tree)) 0 body.entry.rest.now }
+) -> Result<Read<'a, RawItem>, ReadError>
+    ensures { gives.Gives result (heads.defined source.now head all (gives.view body.entry)) }
 {
     let Read { tree, rest, .. } = body;
-    Read {
-        tree: item(at, RawItemKind::Function(head, all, tree)),
+    let made = result_of(alloc, source, head)?;
+    Ok(Read {
+        tree: item(head.at, RawItemKind::Function(made, all, tree)),
         nest: 0,
         rest,
-    }
+    })
 }
 
 pub fn prototype<'a>(
-    at: Place,
-    head: RawResult,
+    alloc: Global,
+    source: &[u8],
+    head: Head,
     all: RawParams,
     rest: &'a [Token],
-) -> Read<'a, RawItem>
-    ensures { Some (gives.view result) ≡ got (grammar.item at (i.Proto head all)) 0 rest.now }
+) -> Result<Read<'a, RawItem>, ReadError>
+    ensures { gives.Gives result (got (grammar.item head.at (i.Proto (heads.result_of source.now head) all)) 0 rest.now) }
 {
-    Read {
-        tree: item(at, RawItemKind::Proto(head, all)),
+    let made = result_of(alloc, source, head)?;
+    Ok(Read {
+        tree: item(head.at, RawItemKind::Proto(made, all)),
         nest: 0,
         rest,
-    }
+    })
 }

@@ -6,19 +6,17 @@ ghost use Rattle.raw_tree.specs.Level.{bytes_of};
 ghost use Rattle.raw_tree.specs.Reading as spec;
 ghost use Rattle.raw_tree.specs.ReadingItems as items;
 ghost use Rattle.raw_tree.specs.ReadingStatements as code;
-ghost use Rattle.xmt_parse.specs.Returns.{made};
+ghost use Rattle.xmt_parse.specs.Heads as heads;
 
 use crate::item_nodes::{
-    array, array_values, function, globals, open_array, param, prototype, register, registers,
-    scalar, some_params, some_values,
+    Head, Returns, array, array_values, function, globals, open_array, param, prototype, register,
+    registers, scalar, some_params, some_values,
 };
 use raw_expressions::{Part, read_part};
-use raw_statements::{read_body, read_opening, read_statement, read_type};
+use raw_statements::{read_body, read_opening, read_type};
 use raw_tree::kinds::{Expected, bytes_between, close_round, is_name, open_curly, open_round};
-use raw_tree::read::{Read, ReadError, behind, name_of, past, read_name};
-use raw_tree::{
-    RawGlobal, RawItem, RawName, RawParam, RawParams, RawRegister, RawResult, RawStmt, RawValues,
-};
+use raw_tree::read::{Read, ReadError, behind, followed_by, name_of, past, read_name};
+use raw_tree::{RawGlobal, RawItem, RawParam, RawParams, RawRegister, RawValues};
 use sqlite_items::Items;
 use std::alloc::Global;
 use xmt_base::Place;
@@ -56,7 +54,7 @@ fn read_values<'a>(
             nest: inner,
             rest,
         } = one;
-        all.push(tree)?;
+        all.push(tree.into_inner())?;
         nest = inner.max(nest);
         match behind(Expected::CloseCurly, rest) {
             Some(more) => {
@@ -125,29 +123,59 @@ fn read_values_of<'a>(
     }
 }
 
-// An array behind its `[`.
+// An array of a written length, behind its `[`.
 fn read_sized<'a>(
     alloc: Global,
     source: &[u8],
     depth: u32,
-    name: RawName,
+    t: Token,
     ts: &'a [Token],
 ) -> Result<Read<'a, RawGlobal>, ReadError>
     requires { depth < 2 ^ 20 }
-    ensures { gives.Gives result (items.read_sized (spec.readers source.now depth).of_cond name ts.now) }
+    ensures { gives.Gives result (heads.of_length source.now depth t ts.now) }
 {
-    match behind(Expected::CloseSquare, ts) {
+    let length = read_part(alloc, source, depth, Part::Cond, ts)?;
+    let length = followed_by(Expected::CloseSquare, length)?;
+    let values = read_values_of(alloc, source, depth, length.rest)?;
+    array(alloc, source, t, length, values)
+}
+
+// An array as long as its values are many, behind its `]`.
+fn read_open<'a>(
+    alloc: Global,
+    source: &[u8],
+    depth: u32,
+    t: Token,
+    ts: &'a [Token],
+) -> Result<Read<'a, RawGlobal>, ReadError>
+    requires { depth < 2 ^ 20 }
+    ensures { gives.Gives result (heads.of_values source.now depth t ts.now) }
+{
+    let inner = past(Expected::Equal, ts)?;
+    let values = read_array(alloc, source, depth, inner)?;
+    open_array(alloc, source, t, values)
+}
+
+// A global, behind the token of its name.
+fn read_named<'a>(
+    alloc: Global,
+    source: &[u8],
+    depth: u32,
+    t: Token,
+    ts: &'a [Token],
+) -> Result<Read<'a, RawGlobal>, ReadError>
+    requires { depth < 2 ^ 20 }
+    ensures { gives.Gives result (heads.global_of source.now depth t ts.now) }
+{
+    match behind(Expected::OpenSquare, ts) {
         None => {
-            let length = read_part(alloc, source, depth, Part::Cond, ts)?;
-            let more = past(Expected::CloseSquare, length.rest)?;
-            let values = read_values_of(alloc, source, depth, more)?;
-            array(alloc, name, length, values)
+            let value = read_opening(alloc, source, depth, Part::Cond, ts)?;
+            scalar(alloc, source, t, value)
         }
-        Some(more) => {
-            let inner = past(Expected::Equal, more)?;
-            let values = read_array(alloc, source, depth, inner)?;
-            Ok(open_array(name, values))
-        }
+        Some(inner) => match behind(Expected::CloseSquare, inner) {
+            None => read_sized(alloc, source, depth, t, inner),
+            Some(more) => read_open(alloc, source, depth, t, more),
+        },
     }
 }
 
@@ -160,18 +188,9 @@ fn read_global<'a>(
     requires { depth < 2 ^ 20 }
     ensures { gives.Gives result (items.read_global source.now (spec.readers source.now depth).of_cond ts.now) }
 {
-    let name = read_name(alloc, source, ts)?;
-    let Read {
-        tree: name,
-        rest,
-        ..
-    } = name;
-    match behind(Expected::OpenSquare, rest) {
-        None => {
-            let value = read_opening(alloc, source, depth, Part::Cond, rest)?;
-            Ok(scalar(name, value))
-        }
-        Some(more) => read_sized(alloc, source, depth, name, more),
+    match ts {
+        [t, more @ ..] if is_name(t.kind) => read_named(alloc, source, depth, *t, more),
+        _ => Err(ReadError::Syntax(ts.len())),
     }
 }
 
@@ -227,8 +246,8 @@ fn read_globals<'a>(
 {
     let ty = read_type(alloc, ts)?;
     let all = read_global_list(alloc, source, depth, ty.rest)?;
-    let rest = past(Expected::Semicolon, all.rest)?;
-    Ok(globals(ty, all, rest))
+    let all = followed_by(Expected::Semicolon, all)?;
+    Ok(globals(ty, all))
 }
 
 fn read_register<'a>(
@@ -298,8 +317,8 @@ fn registers_of<'a>(
     ensures { gives.Gives result (items.registers_of source.now (spec.readers source.now depth).of_cond at int ts.now) }
 {
     let all = read_register_list(alloc, source, depth, ts)?;
-    let rest = past(Expected::Semicolon, all.rest)?;
-    Ok(registers(at, int, all, rest))
+    let all = followed_by(Expected::Semicolon, all)?;
+    Ok(registers(at, int, all))
 }
 
 fn read_registers<'a>(
@@ -429,23 +448,22 @@ fn all_named(all: &RawParams) -> bool
     }
 }
 
-// The body of a function, behind its head.
+// The body of a function, behind its parameters.
 fn read_function<'a>(
     alloc: Global,
     source: &[u8],
     depth: u32,
-    at: Place,
-    head: RawResult,
+    head: Head,
     all: RawParams,
     ts: &'a [Token],
 ) -> Result<Read<'a, RawItem>, ReadError>
     requires { depth < 2 ^ 20 }
-    ensures { gives.Gives result (items.read_function (code.read_piece source.now depth) at head all ts.now) }
+    ensures { gives.Gives result (heads.function_of source.now depth head all ts.now) }
 {
     if all_named(&all) {
         let inner = past(Expected::OpenCurly, ts)?;
         let body = read_body(alloc, source, depth, inner)?;
-        Ok(function(at, head, all, body))
+        function(alloc, source, head, all, body)
     } else {
         Err(ReadError::Syntax(ts.len()))
     }
@@ -456,40 +474,18 @@ fn read_headed<'a>(
     alloc: Global,
     source: &[u8],
     depth: u32,
-    at: Place,
-    head: RawResult,
+    head: Head,
     ts: &'a [Token],
 ) -> Result<Read<'a, RawItem>, ReadError>
     requires { depth < 2 ^ 20 }
-    ensures { gives.Gives result (items.read_headed source.now (code.read_piece source.now depth) at head ts.now) }
+    ensures { gives.Gives result (heads.item_of source.now depth head ts.now) }
 {
     let inner = past(Expected::OpenRound, ts)?;
     let all = read_params(alloc, source, inner)?;
-    let Read {
-        tree: all,
-        rest,
-        ..
-    } = all;
-    let more = past(Expected::CloseRound, rest)?;
-    match behind(Expected::Semicolon, more) {
-        None => read_function(alloc, source, depth, at, head, all, more),
-        Some(behind_all) => Ok(prototype(at, head, all, behind_all)),
-    }
-}
-
-/// What a function with a word before its name answers.
-#[derive(Clone, Copy, Debug, PartialEq, Eq)]
-pub enum Returns {
-    Int,
-    Void,
-}
-
-fn make_result(returns: Returns, name: RawName) -> RawResult
-    ensures { result ≡ made returns name }
-{
-    match returns {
-        Returns::Int => RawResult::Int(name),
-        Returns::Void => RawResult::Void(name),
+    let Read { tree, rest, .. } = followed_by(Expected::CloseRound, all)?;
+    match behind(Expected::Semicolon, rest) {
+        None => read_function(alloc, source, depth, head, tree, rest),
+        Some(behind_all) => prototype(alloc, source, head, tree, behind_all),
     }
 }
 
@@ -502,15 +498,19 @@ fn read_typed<'a>(
     ts: &'a [Token],
 ) -> Result<Read<'a, RawItem>, ReadError>
     requires { depth < 2 ^ 20 }
-    ensures { gives.Gives result (items.read_typed source.now (code.read_piece source.now depth) at (made returns) ts.now) }
+    ensures { gives.Gives result (items.read_typed source.now (code.read_piece source.now depth) at (heads.made returns) ts.now) }
 {
-    let name = read_name(alloc, source, ts)?;
-    let Read {
-        tree: name,
-        rest,
-        ..
-    } = name;
-    read_headed(alloc, source, depth, at, make_result(returns, name), rest)
+    match ts {
+        [t, more @ ..] if is_name(t.kind) => {
+            let head = Head {
+                at,
+                returns,
+                name: *t,
+            };
+            read_headed(alloc, source, depth, head, more)
+        }
+        _ => Err(ReadError::Syntax(ts.len())),
+    }
 }
 
 fn is_main(source: &[u8], t: Token) -> bool
@@ -531,8 +531,12 @@ fn read_main<'a>(
     ensures { gives.Gives result (items.read_main source.now (code.read_piece source.now depth) t ts.now) }
 {
     if is_main(source, t) {
-        let name = name_of(alloc, source, t)?;
-        read_headed(alloc, source, depth, t.place, RawResult::Main(name), ts)
+        let head = Head {
+            at: t.place,
+            returns: Returns::Main,
+            name: t,
+        };
+        read_headed(alloc, source, depth, head, ts)
     } else {
         Err(ReadError::Syntax(ts.len() + 1))
     }

@@ -1,4 +1,5 @@
-//! The tree of the grammar, and how it is read from tokens.
+//! The parser. `parse` answers the tree that the tokens of a source spell, of nesting at most 200; Syntax only
+//! where they spell none, at a token or at the end; TooDeep exactly by its rule. Want of memory alone is free.
 #![tactic(auto)]
 
 ghost use Rattle.std.specs.Prelude.{◌≤◌, ◌^◌, length};

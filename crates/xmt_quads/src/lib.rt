@@ -1,8 +1,6 @@
-//! Quads, the three-address code between the typed tree and the instructions of the machine, and
-//! the homes of their virtual registers. What quads do is said in `specs/`: `Meaning` has the one
-//! step of a thread, `Traces` what a thread does by itself and with how much work, `Live` which
-//! registers are live and from where to where a register is in use, and `WellFormed` which quad
-//! programs are well formed. Worked examples stand in `proofs/`.
+//! Quads, three-address code over virtual registers: their meaning, their traces with work, which registers are
+//! live, and which quad programs are well formed, as definitions. `plain` answers a frame slot of its own for each
+//! virtual register, below 456, one list for each function.
 #![tactic(auto)]
 
 mod code;
@@ -11,6 +9,3 @@ mod homes;
 pub use code::{Operand, Quad, QuadFunction, QuadProgram, Where};
 pub use homes::{Allocation, Home, plain};
 pub use xmt_base::{BinOp, UnOp};
-
-#[cfg(test)]
-mod tests;

@@ -1,11 +1,12 @@
-use Rattle.std.proofs.Common.{◌≡◌, ℕ, pred, arith}
+use Rattle.std.proofs.Common.{◌≡◌, ℕ, pred, [], ◌∷◌, ◌++◌, ap, ◌∙◌, arith}
+use Rattle.raw_tree.specs.declared.tree.RawStmt.{RawStmt}
 use Rattle.xmt_lex.specs.declared.kinds.Keyword.TheVariants as k
 use Rattle.xmt_lex.specs.declared.kinds.Mark.TheVariants as m
 use Rattle.std.proofs.lemmas.Result.{err_from_is_err_and}
 use Rattle.raw_tree.specs.Gives.{view}
 use Rattle.raw_tree.specs.Reading.{expression}
 use Rattle.raw_tree.specs.ReadingStatements.{read_stmt, read_piece, read_body}
-use Rattle.raw_statements.proofs.Turns.{stmt_deepest, stmt_deeper, piece_empty, body_exit, body_end, body_ends_none, body_turn, for_exit, begun_for, begun_block}
+use Rattle.raw_statements.proofs.Turns.{stmt_deepest, stmt_deeper, piece_empty, body_exit, body_end, body_ends_none, body_turn, begun_for, begun_block}
 use Rattle.raw_statements.proofs.blocks.+statements.Goals as goal
 
 pub read_statement-returns-then-depth-eq0 : goal.read_statement-returns-then-depth-eq0
@@ -34,12 +35,7 @@ pub read_body-parts-preserved : goal.read_body-parts-preserved
 read_body-parts-preserved t c =
     let piece = read_piece c.args.source.now c.args.d in
     body_turn piece (piece_empty c.args.source.now c.args.d) c.parts.turns c.parts.all c.parts.left.now (read_body piece c.args.ts.now) (view c.in_ok-one-in-None.one) c.push.new.self
-    c.parts.invariant c.in-None.ensures (omega (arith, c.if-turns-eq0.false)) c.in_ok-one-in-None.ensures c.in_ok-push-in-None.ensures.ok
-
-pub read_for-returns-in_err-head : goal.read_for-returns-in_err-head
-read_for-returns-in_err-head t c =
-    let p = err_from_is_err_and c.from_residual.result c.from_residual.ensures.1 in
-    for_exit c.args.source.now c.args.d c.saturating_sub.result (read_stmt c.args.source.now c.args.d) c.args.t c.args.ts.now c.from_residual.result (omega (arith, c.saturating_sub.ensures)) p.1 p.2 c.in_err-head.ensures
+    c.parts.invariant c.in-None.ensures (omega (arith, c.if-turns-eq0.false)) c.in_ok-one-in-None.ensures (c.in_ok-push-in-None.ensures.ok ∙ ap (λ (a : RawStmt). c.parts.all ++ a ∷ []) c.into_inner.ensures)
 
 is_for : (t : ℕ) (c : goal.begun-After-read_for t) → c.in-Keyword-For.field-0 ≡ k.For
 is_for t c = rw c.in-Keyword-For.is at c.in-Keyword-For.field-0-is
