@@ -38,6 +38,7 @@ pub fn opened<'a>(a: Read<'a, Boxed<RawExpr>>) -> Read<'a, Option<Boxed<RawExpr>
     }
 }
 
+/// A type of these qualifiers.
 pub fn typed<'a>(at: Place, words: Read<'a, Items<Qualifier>>) -> Read<'a, RawType>
     ensures { Some (gives.view result) ≡ got (record { at = at; qualifiers = words.entry.tree }) 0 words.entry.rest.now }
 {
@@ -52,6 +53,7 @@ pub fn typed<'a>(at: Place, words: Read<'a, Items<Qualifier>>) -> Read<'a, RawTy
     }
 }
 
+/// A local, with the value that it opens with.
 pub fn local<'a>(
     name: Read<'a, RawName>,
     value: Read<'a, Option<Boxed<RawExpr>>>,
@@ -67,6 +69,7 @@ pub fn local<'a>(
     }
 }
 
+/// A declaration of locals.
 pub fn declaration<'a>(
     alloc: Global,
     ty: Read<'a, RawType>,
@@ -85,6 +88,7 @@ pub fn declaration<'a>(
     Ok(Read { tree, nest, rest })
 }
 
+/// A declaration as the first part of a `for`.
 pub fn first_decl<'a>(
     alloc: Global,
     decl: Read<'a, Boxed<RawDecl>>,
@@ -100,6 +104,7 @@ pub fn first_decl<'a>(
     })
 }
 
+/// An expression or nothing as the first part of a `for`.
 pub fn first_value<'a>(
     alloc: Global,
     value: Read<'a, Option<Boxed<RawExpr>>>,
@@ -115,8 +120,8 @@ pub fn first_value<'a>(
     })
 }
 
-/// A statement of fixed tokens.
-pub fn alone<'a>(
+/// A statement of this kind, and the tokens behind it.
+pub fn of_kind<'a>(
     alloc: Global,
     at: Place,
     kind: RawStmtKind,
@@ -132,6 +137,7 @@ pub fn alone<'a>(
     })
 }
 
+/// An expression as a statement.
 pub fn value<'a>(
     alloc: Global,
     a: Read<'a, Boxed<RawExpr>>,
@@ -140,9 +146,10 @@ pub fn value<'a>(
 {
     let Read { tree, rest, .. } = a;
     let at = tree.get().at;
-    alone(alloc, at, RawStmtKind::Value(tree), rest)
+    of_kind(alloc, at, RawStmtKind::Value(tree), rest)
 }
 
+/// A declaration as a statement.
 pub fn declare<'a>(
     alloc: Global,
     decl: Read<'a, Boxed<RawDecl>>,
@@ -151,9 +158,10 @@ pub fn declare<'a>(
 {
     let Read { tree, rest, .. } = decl;
     let at = tree.get().at;
-    alone(alloc, at, RawStmtKind::Decl(tree), rest)
+    of_kind(alloc, at, RawStmtKind::Decl(tree), rest)
 }
 
+/// A block.
 pub fn block<'a>(
     alloc: Global,
     at: Place,
@@ -162,7 +170,7 @@ pub fn block<'a>(
     ensures { gives.Gives result (got (grammar.statement at (s.Block body.entry.tree)) 0 body.entry.rest.now) }
 {
     let Read { tree, rest, .. } = body;
-    alone(alloc, at, RawStmtKind::Block(tree), rest)
+    of_kind(alloc, at, RawStmtKind::Block(tree), rest)
 }
 
 /// The test of an `if`, and the statement behind it.
@@ -172,6 +180,7 @@ pub struct Tested {
     pub branch: Boxed<RawStmt>,
 }
 
+/// The test of an `if` and its first branch, put together.
 pub fn test_and_branch<'a>(
     test: Read<'a, Boxed<RawExpr>>,
     branch: Read<'a, Boxed<RawStmt>>,
@@ -191,6 +200,7 @@ pub fn test_and_branch<'a>(
     }
 }
 
+/// An `if` without an `else`.
 pub fn if_alone<'a>(
     alloc: Global,
     at: Place,
@@ -200,9 +210,10 @@ pub fn if_alone<'a>(
 {
     let Read { tree, rest, .. } = part;
     let Tested { test: a, branch: b } = tree;
-    alone(alloc, at, RawStmtKind::If(a, b, None), rest)
+    of_kind(alloc, at, RawStmtKind::If(a, b, None), rest)
 }
 
+/// An `if` with an `else`.
 pub fn if_else<'a>(
     alloc: Global,
     at: Place,
@@ -214,9 +225,10 @@ pub fn if_else<'a>(
     let Read { tree, .. } = part;
     let Tested { test: a, branch: b } = tree;
     let Read { tree: c, rest, .. } = other;
-    alone(alloc, at, RawStmtKind::If(a, b, Some(c)), rest)
+    of_kind(alloc, at, RawStmtKind::If(a, b, Some(c)), rest)
 }
 
+/// A `while`.
 pub fn while_loop<'a>(
     alloc: Global,
     at: Place,
@@ -227,9 +239,10 @@ pub fn while_loop<'a>(
 {
     let Read { tree: a, .. } = test;
     let Read { tree: b, rest, .. } = body;
-    alone(alloc, at, RawStmtKind::While(a, b), rest)
+    of_kind(alloc, at, RawStmtKind::While(a, b), rest)
 }
 
+/// A `do`.
 pub fn do_loop<'a>(
     alloc: Global,
     at: Place,
@@ -240,7 +253,7 @@ pub fn do_loop<'a>(
 {
     let Read { tree: b, .. } = body;
     let Read { tree: a, rest, .. } = test;
-    alone(alloc, at, RawStmtKind::Do(b, a), rest)
+    of_kind(alloc, at, RawStmtKind::Do(b, a), rest)
 }
 
 /// What stands in the brackets of a `for`.
@@ -251,6 +264,7 @@ pub struct ForHead {
     pub third: Option<Boxed<RawExpr>>,
 }
 
+/// The three parts of a `for`.
 pub fn for_parts<'a>(
     first: Read<'a, Boxed<RawFirst>>,
     test: Read<'a, Option<Boxed<RawExpr>>>,
@@ -272,6 +286,7 @@ pub fn for_parts<'a>(
     }
 }
 
+/// A `for`.
 pub fn for_loop<'a>(
     alloc: Global,
     at: Place,
@@ -287,9 +302,10 @@ pub fn for_loop<'a>(
         rest,
         ..
     } = body;
-    alone(alloc, at, RawStmtKind::For(first, test, third, body), rest)
+    of_kind(alloc, at, RawStmtKind::For(first, test, third, body), rest)
 }
 
+/// A `return`.
 pub fn return_value<'a>(
     alloc: Global,
     at: Place,
@@ -298,7 +314,7 @@ pub fn return_value<'a>(
     ensures { gives.Gives result (got (grammar.statement at (s.Return value.entry.tree)) 0 value.entry.rest.now) }
 {
     let Read { tree, rest, .. } = value;
-    alone(alloc, at, RawStmtKind::Return(tree), rest)
+    of_kind(alloc, at, RawStmtKind::Return(tree), rest)
 }
 
 /// The first and the last thread number of a `spawn`.
@@ -308,6 +324,7 @@ pub struct Bounds {
     pub high: Boxed<RawExpr>,
 }
 
+/// The bounds of a `spawn`.
 pub fn low_and_high<'a>(
     low: Read<'a, Boxed<RawExpr>>,
     high: Read<'a, Boxed<RawExpr>>,
@@ -327,6 +344,7 @@ pub fn low_and_high<'a>(
     }
 }
 
+/// A `spawn`.
 pub fn spawn<'a>(
     alloc: Global,
     at: Place,
@@ -342,9 +360,10 @@ pub fn spawn<'a>(
         rest,
         ..
     } = body;
-    alone(alloc, at, RawStmtKind::Spawn(low, high, body), rest)
+    of_kind(alloc, at, RawStmtKind::Spawn(low, high, body), rest)
 }
 
+/// A `ps`.
 pub fn ps<'a>(
     alloc: Global,
     at: Place,
@@ -355,9 +374,10 @@ pub fn ps<'a>(
 {
     let Read { tree: a, .. } = variable;
     let Read { tree: b, rest, .. } = base;
-    alone(alloc, at, RawStmtKind::Ps(a, b), rest)
+    of_kind(alloc, at, RawStmtKind::Ps(a, b), rest)
 }
 
+/// A `psm`.
 pub fn psm<'a>(
     alloc: Global,
     at: Place,
@@ -368,9 +388,10 @@ pub fn psm<'a>(
 {
     let Read { tree: a, .. } = variable;
     let Read { tree: b, rest, .. } = place;
-    alone(alloc, at, RawStmtKind::Psm(a, b), rest)
+    of_kind(alloc, at, RawStmtKind::Psm(a, b), rest)
 }
 
+/// A `printf`.
 pub fn print<'a>(
     alloc: Global,
     at: Place,
@@ -385,5 +406,5 @@ pub fn print<'a>(
         rest,
         ..
     } = values;
-    alone(alloc, at, RawStmtKind::Print(a, all), rest)
+    of_kind(alloc, at, RawStmtKind::Print(a, all), rest)
 }

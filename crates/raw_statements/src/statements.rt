@@ -10,7 +10,7 @@ ghost use Rattle.raw_statements.specs.Heads as heads;
 
 use crate::declarations::{read_decl, read_maybe, read_text};
 use crate::statement_nodes::{
-    Bounds, ForHead, alone, declare, do_loop, first_decl, first_value, for_parts, low_and_high,
+    Bounds, ForHead, declare, do_loop, first_decl, first_value, for_parts, low_and_high, of_kind,
     print, ps, psm, return_value, value,
 };
 use raw_expressions::{expression, expressions, place};
@@ -159,7 +159,7 @@ fn read_break<'a>(
     ensures { gives.Gives result (code.read_word_alone (grammar.statement at s.Break) ts.now) }
 {
     let rest = past(Expected::Semicolon, ts)?;
-    alone(alloc, at, RawStmtKind::Break, rest)
+    of_kind(alloc, at, RawStmtKind::Break, rest)
 }
 
 fn read_continue<'a>(
@@ -170,7 +170,7 @@ fn read_continue<'a>(
     ensures { gives.Gives result (code.read_word_alone (grammar.statement at s.Continue) ts.now) }
 {
     let rest = past(Expected::Semicolon, ts)?;
-    alone(alloc, at, RawStmtKind::Continue, rest)
+    of_kind(alloc, at, RawStmtKind::Continue, rest)
 }
 
 fn read_declare<'a>(
@@ -230,7 +230,7 @@ pub fn read_simple<'a>(
     match ts {
         [] => Err(ReadError::Syntax(0)),
         [t, more @ ..] => match t.kind {
-            TokenKind::Mark(Mark::Semicolon) => alone(alloc, t.place, RawStmtKind::Empty, more),
+            TokenKind::Mark(Mark::Semicolon) => of_kind(alloc, t.place, RawStmtKind::Empty, more),
             TokenKind::Keyword(Keyword::Break) => read_break(alloc, t.place, more),
             TokenKind::Keyword(Keyword::Continue) => read_continue(alloc, t.place, more),
             TokenKind::Keyword(Keyword::Return) => read_return(alloc, source, d, *t, more),

@@ -13,7 +13,7 @@ use Rattle.raw_tree.specs.declared.tree.RawStmt.{RawStmt}
 use Rattle.raw_tree.specs.declared.tree.RawValues.{RawValues}
 use Rattle.raw_tree.specs.Grammar.{name_of}
 use Rattle.raw_tree.specs.Items.{item}
-use Rattle.raw_tree.specs.Reading.{Got, GotExpr, ReaderOf, Reader, got, past, open_square, readers}
+use Rattle.raw_tree.specs.Reading.{Got, GotExpr, ReaderOf, got, past, open_square, readers}
 use Rattle.raw_tree.specs.ReadingItems.{array_behind, global_behind, read_function, read_headed}
 use Rattle.raw_tree.specs.ReadingStatements.{read_piece}
 use Rattle.xmt_parse.specs.declared.item_nodes.Head.{Head}

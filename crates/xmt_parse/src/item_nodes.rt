@@ -20,12 +20,14 @@ use std::alloc::{AllocError, Global};
 use xmt_base::Place;
 use xmt_lex::Token;
 
+/// An item.
 pub fn item(at: Place, kind: RawItemKind) -> RawItem
     ensures { result ≡ grammar.item at kind }
 {
     RawItem { at, kind }
 }
 
+/// The values of an array.
 pub fn array_values<'a>(
     at: Place,
     values: Items<RawExpr>,
@@ -42,6 +44,7 @@ pub fn array_values<'a>(
     }
 }
 
+/// Values that could be left out.
 pub fn some_values<'a>(values: Read<'a, RawValues>) -> Read<'a, Option<RawValues>>
     ensures { Some (gives.view result) ≡ got (Some values.entry.tree) values.entry.nest values.entry.rest.now }
 {
@@ -53,7 +56,7 @@ pub fn some_values<'a>(values: Read<'a, RawValues>) -> Read<'a, Option<RawValues
     }
 }
 
-// The global that `t` names.
+/// The global that `t` names.
 pub fn scalar<'a>(
     alloc: Global,
     source: &[u8],
@@ -71,7 +74,7 @@ pub fn scalar<'a>(
     })
 }
 
-// The array that `t` names, of the length that was read.
+/// The array that `t` names, of the length that was read.
 pub fn array<'a>(
     alloc: Global,
     source: &[u8],
@@ -95,7 +98,7 @@ pub fn array<'a>(
     })
 }
 
-// The array that `t` names, as long as its values are many.
+/// The array that `t` names, as long as its values are many.
 pub fn open_array<'a>(
     alloc: Global,
     source: &[u8],
@@ -113,6 +116,7 @@ pub fn open_array<'a>(
     })
 }
 
+/// The globals of one type.
 pub fn globals<'a>(ty: Read<'a, RawType>, all: Read<'a, Items<RawGlobal>>) -> Read<'a, RawItem>
     ensures { Some (gives.view result) ≡ got (grammar.item ty.entry.tree.at (i.Globals ty.entry.tree all.entry.tree)) 0 all.entry.rest.now }
 {
@@ -125,6 +129,7 @@ pub fn globals<'a>(ty: Read<'a, RawType>, all: Read<'a, Items<RawGlobal>>) -> Re
     }
 }
 
+/// A global register, with the value that it opens with.
 pub fn register<'a>(
     name: Read<'a, RawName>,
     value: Read<'a, Option<Boxed<RawExpr>>>,
@@ -140,6 +145,7 @@ pub fn register<'a>(
     }
 }
 
+/// Global registers.
 pub fn registers<'a>(at: Place, int: bool, all: Read<'a, Items<RawRegister>>) -> Read<'a, RawItem>
     ensures { Some (gives.view result) ≡ got (grammar.item at (i.Registers int all.entry.tree)) 0 all.entry.rest.now }
 {
@@ -151,6 +157,7 @@ pub fn registers<'a>(at: Place, int: bool, all: Read<'a, Items<RawRegister>>) ->
     }
 }
 
+/// A parameter.
 pub fn param<'a>(
     ty: Read<'a, RawType>,
     name: Option<RawName>,
@@ -166,6 +173,7 @@ pub fn param<'a>(
     }
 }
 
+/// Parameters, one at least.
 pub fn some_params<'a>(all: Read<'a, Items<RawParam>>) -> Read<'a, RawParams>
     ensures { Some (gives.view result) ≡ got (params.Some all.entry.tree) 0 all.entry.rest.now }
 {
@@ -204,6 +212,7 @@ fn result_of(alloc: Global, source: &[u8], head: Head) -> Result<RawResult, Allo
     })
 }
 
+/// A function.
 pub fn function<'a>(
     alloc: Global,
     source: &[u8],
@@ -222,6 +231,7 @@ pub fn function<'a>(
     })
 }
 
+/// A prototype.
 pub fn prototype<'a>(
     alloc: Global,
     source: &[u8],
