@@ -39,8 +39,8 @@ statement-returns-in-Spawn-clause-made t c =
     let low = c.in-Spawn.low in
     let high = c.in-Spawn.high in
     if_ok_then _ c.spawn_block.ensures.made
-    (ap (λ x. form.spawn_block at x _ _ before) c.get-in-Spawn.ensures
-    ∙ ap (λ x. form.spawn_block at low x _ before) c.get-in-Spawn-2.ensures
+    (ap (λ x. form.spawn_block at x c.get-in-Spawn-2.result.now c.as_slice-in-Spawn.result.now before) c.get-in-Spawn.ensures
+    ∙ ap (λ x. form.spawn_block at low x c.as_slice-in-Spawn.result.now before) c.get-in-Spawn-2.ensures
     ∙ ap (λ x. form.spawn_block at low high x before) c.as_slice-in-Spawn.ensures
     ∙ sym (ap (λ kind. spec.typed at kind before) c.in-Spawn.is ∙ typed_spawn at low high c.in-Spawn.body before))
 
