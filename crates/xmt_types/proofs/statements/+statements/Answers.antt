@@ -1,4 +1,4 @@
-use Rattle.std.proofs.Common.{◌≡◌, refl, ◌∙◌, ap, sym, length}
+use Rattle.std.proofs.Common.{refl, ◌∙◌, ap, sym, length}
 use Rattle.source_meaning.specs.declared.tree.StmtKind.TheVariants as s
 use Rattle.name_scopes.specs.Locals.{env, left}
 use Rattle.name_faults.specs.Statements.{after, after_all}
