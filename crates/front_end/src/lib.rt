@@ -14,6 +14,3 @@ pub use law::sources_have_one_program;
 pub use reading::front;
 pub use refusal::{SourceKind, SourceRefusal};
 pub use xmt_types::Which;
-
-#[cfg(test)]
-mod tests;

@@ -11,6 +11,3 @@ mod read;
 pub use dump::write_map;
 pub use laws::dump_is_read;
 pub use read::{MapRefusal, read_map};
-
-#[cfg(test)]
-mod tests;

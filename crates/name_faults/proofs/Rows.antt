@@ -1,5 +1,5 @@
 -- Rows of trees, as lists, and loops over them.
-use Rattle.std.proofs.Common.{◌≡◌, ◌≤◌, ◌<◌, refl, sym, ◌∙◌, ap, arith, ℕ, zero, suc, ◌+◌, List, [], ◌∷◌, length, drop, drop-cons, get_or, add-one, Option, None}
+use Rattle.std.proofs.Common.{◌≡◌, ◌≤◌, ◌<◌, refl, sym, ◌∙◌, ap, arith, ℕ, zero, suc, ◌+◌, List, [], ◌∷◌, length, drop, drop-cons, get_or, add-one, Option, None, Result, Ok, Err, OnOk, IfOk}
 use Rattle.raw_tree.specs.declared.tree.RawExpr.{RawExpr}
 use Rattle.raw_tree.specs.declared.tree.RawExprKind.TheVariants as e
 use Rattle.raw_tree.specs.declared.tree.RawName.{RawName}
@@ -73,3 +73,12 @@ found_turn of_list of_one step more e after found one next x n xs a within is st
     ∙ earlier_assoc found (first (of_one a e)) (first (of_list (drop (n + 1) xs) (step a e)))
     ∙ ap (λ fs. earlier found (first fs)) (sym (ap (λ ys. of_list ys e) cut ∙ more a (drop (n + 1) xs) e))
     ∙ before
+
+-- what a call ensures of its success, along an equation
+pub on_ok_then : {A E X : Type 0} {y z : X} (x : X) (r : Result A E) → OnOk r (x ≡ y) → y ≡ z → OnOk r (x ≡ z)
+on_ok_then x (Ok a) is same = is ∙ same
+on_ok_then x (Err e) is same = tt
+
+pub if_ok_then : {A E : Type 0} {x y : A} (r : Result A E) → IfOk r (λ a. a ≡ x) → x ≡ y → IfOk r (λ a. a ≡ y)
+if_ok_then (Ok a) is same = is ∙ same
+if_ok_then (Err e) is same = tt

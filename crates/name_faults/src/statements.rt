@@ -1,5 +1,5 @@
 //! The first breach in a statement.
-ghost use Rattle.std.specs.Prelude.{ℕ, ◌≡◌, true, map, OnOk, IfOk, length};
+ghost use Rattle.std.specs.Prelude.{ℕ, ◌≡◌, true, map, OnOk, IfOk};
 ghost use Rattle.name_scopes.specs.Fault.{first, over};
 ghost use Rattle.name_scopes.specs.Fault as fault;
 ghost use Rattle.name_scopes.specs.declared.fault.Which.TheVariants as which;
@@ -8,6 +8,7 @@ ghost use Rattle.name_scopes.specs.Locals as scoped;
 ghost use Rattle.name_scopes.specs.Table.{IsTable};
 ghost use Rattle.name_scopes.specs.Waiting as wait;
 ghost use Rattle.name_faults.specs.Expressions as part;
+ghost use Rattle.name_faults.specs.Parts as form;
 ghost use Rattle.name_faults.specs.Statements as spec;
 ghost use Rattle.xmt_base.specs.Counters.{capped};
 
@@ -216,42 +217,22 @@ fn statement(
 {
     match &s.kind {
         #[tactic(auto)]
-        RawStmtKind::Block(body) => {
-            let found = block(alloc, locals, value, body.as_slice())?;
-            Ok(found)
-        }
+        RawStmtKind::Block(body) => block(alloc, locals, value, body.as_slice()),
         RawStmtKind::Decl(decl) => declaration(alloc, locals, start, decl.get()),
         RawStmtKind::Empty => Ok(None),
         RawStmtKind::Value(e) => Ok(whole(&locals.scope, false, e.get())),
         RawStmtKind::If(test, body, other) => {
             let test = whole(&locals.scope, true, test.get());
             let body = inner(alloc, locals, value, body.get())?;
-            match other {
-                None => Ok(earlier(test, earlier(body, None))),
-                Some(other) => {
-                    let other = inner(alloc, locals, value, other.get())?;
-                    Ok(earlier(test, earlier(body, other)))
-                }
-            }
+            let other = other_branch(alloc, locals, value, other)?;
+            Ok(earlier(test, earlier(body, other)))
         }
         RawStmtKind::While(test, body) => {
-            let test = whole(&locals.scope, true, test.get());
-            let body = inner(alloc, locals, value, body.get())?;
-            Ok(earlier(test, body))
+            while_loop(alloc, locals, value, body.get(), test.get())
         }
-        RawStmtKind::Do(body, test) => {
-            let test = whole(&locals.scope, true, test.get());
-            let body = inner(alloc, locals, value, body.get())?;
-            Ok(earlier(body, test))
-        }
+        RawStmtKind::Do(body, test) => do_loop(alloc, locals, value, body.get(), test.get()),
         RawStmtKind::For(begin, test, third, body) => {
-            let count = locals.scope.declared.len();
-            let begin = first_part(alloc, locals, count, begin.get())?;
-            let test = whole_option(&locals.scope, true, test);
-            let third = whole_option(&locals.scope, false, third);
-            let body = inner(alloc, locals, value, body.get())?;
-            locals.leave(alloc, count)?;
-            Ok(earlier(begin, earlier(earlier(test, third), body)))
+            for_loop(alloc, locals, value, body.get(), begin.get(), test, third)
         }
         RawStmtKind::Break => Ok(None),
         RawStmtKind::Continue => Ok(None),
@@ -259,8 +240,7 @@ fn statement(
         #[tactic(auto)]
         RawStmtKind::Spawn(low, high, body) => {
             let bounds = bounds_faults(&locals.scope, s.at, low.get(), high.get());
-            let body = block(alloc, locals, value, body.as_slice())?;
-            Ok(earlier(bounds, body))
+            spawn_block(alloc, locals, value, body.as_slice(), bounds)
         }
         RawStmtKind::Ps(name, register) => Ok(ps_faults(&locals.scope, name, register)),
         RawStmtKind::Psm(name, place) => { Ok(psm_faults(&locals.scope, s.at, name, place.get())) }
@@ -268,6 +248,122 @@ fn statement(
             Ok(print_faults(&locals.scope, s.at, text, values.as_slice()))
         }
     }
+}
+
+// The branch behind `else`, where there is one.
+#[tactic(auto, unfolding(name_scopes::specs::Opened::opened))]
+#[cycle(statements)]
+fn other_branch(
+    alloc: Global,
+    locals: &mut Locals,
+    value: bool,
+    other: &Option<Boxed<RawStmt>>,
+) -> Result<Option<Fault>, AllocError>
+    requires { IsTable locals.old.scope }
+    ensures table { OnOk result (IsTable locals.new.scope) }
+    ensures env { OnOk result (env locals.new ≡ form.after_other other.now (env locals.old)) }
+    ensures fault { IfOk result (λ found. found ≡ first (form.other_faults value other.now (env locals.old))) }
+{
+    match other {
+        None => Ok(None),
+        Some(other) => inner(alloc, locals, value, other.get()),
+    }
+}
+
+#[tactic(auto, unfolding(name_scopes::specs::Opened::opened))]
+#[cycle(statements)]
+fn while_loop(
+    alloc: Global,
+    locals: &mut Locals,
+    value: bool,
+    body: &RawStmt,
+    test: &RawExpr,
+) -> Result<Option<Fault>, AllocError>
+    requires { IsTable locals.old.scope }
+    ensures table { OnOk result (IsTable locals.new.scope) }
+    ensures env { OnOk result (env locals.new ≡ form.behind body.now (env locals.old)) }
+    ensures fault { IfOk result (λ found. found ≡ first (form.while_faults value test.now body.now (env locals.old))) }
+{
+    let test = whole(&locals.scope, true, test);
+    let body = inner(alloc, locals, value, body)?;
+    Ok(earlier(test, body))
+}
+
+#[tactic(auto, unfolding(name_scopes::specs::Opened::opened))]
+#[cycle(statements)]
+fn do_loop(
+    alloc: Global,
+    locals: &mut Locals,
+    value: bool,
+    body: &RawStmt,
+    test: &RawExpr,
+) -> Result<Option<Fault>, AllocError>
+    requires { IsTable locals.old.scope }
+    ensures table { OnOk result (IsTable locals.new.scope) }
+    ensures env { OnOk result (env locals.new ≡ form.behind body.now (env locals.old)) }
+    ensures fault { IfOk result (λ found. found ≡ first (form.do_faults value body.now test.now (env locals.old))) }
+{
+    let test = whole(&locals.scope, true, test);
+    let body = inner(alloc, locals, value, body)?;
+    Ok(earlier(body, test))
+}
+
+// The test and the third part of a loop.
+fn steps_faults(
+    scope: &Scope,
+    test: &Option<Boxed<RawExpr>>,
+    third: &Option<Boxed<RawExpr>>,
+) -> Option<Fault>
+    requires { IsTable scope.now }
+    ensures { result ≡ first (form.steps_faults test.now third.now scope.now.declared) }
+{
+    earlier(
+        whole_option(scope, true, test),
+        whole_option(scope, false, third),
+    )
+}
+
+#[tactic(auto, unfolding(name_scopes::specs::Opened::opened))]
+#[cycle(statements)]
+fn for_loop(
+    alloc: Global,
+    locals: &mut Locals,
+    value: bool,
+    body: &RawStmt,
+    begin: &RawFirst,
+    test: &Option<Boxed<RawExpr>>,
+    third: &Option<Boxed<RawExpr>>,
+) -> Result<Option<Fault>, AllocError>
+    requires { IsTable locals.old.scope }
+    ensures table { OnOk result (IsTable locals.new.scope) }
+    ensures env { OnOk result (env locals.new ≡ form.after_for begin.now body.now (env locals.old)) }
+    ensures fault { IfOk result (λ found. found ≡ first (form.for_faults value begin.now test.now third.now body.now (env locals.old))) }
+{
+    let count = locals.scope.declared.len();
+    let begin = first_part(alloc, locals, count, begin)?;
+    let steps = steps_faults(&locals.scope, test, third);
+    let body = inner(alloc, locals, value, body)?;
+    locals.leave(alloc, count)?;
+    Ok(earlier(begin, earlier(steps, body)))
+}
+
+// The block of a spawn, behind what its bounds break.
+#[tactic(auto)]
+#[cycle(statements)]
+fn spawn_block(
+    alloc: Global,
+    locals: &mut Locals,
+    value: bool,
+    body: &[RawStmt],
+    bounds: Option<Fault>,
+) -> Result<Option<Fault>, AllocError>
+    requires { IsTable locals.old.scope }
+    ensures table { OnOk result (IsTable locals.new.scope) }
+    ensures env { OnOk result (env locals.new ≡ form.behind_all body.now (env locals.old)) }
+    ensures fault { IfOk result (λ found. found ≡ fault.earlier bounds (first (form.block_faults value body.now (env locals.old)))) }
+{
+    let body = block(alloc, locals, value, body)?;
+    Ok(earlier(bounds, body))
 }
 
 // A statement that is a scope of its own.
@@ -281,8 +377,8 @@ fn inner(
 ) -> Result<Option<Fault>, AllocError>
     requires { IsTable locals.old.scope }
     ensures table { OnOk result (IsTable locals.new.scope) }
-    ensures env { OnOk result (env locals.new ≡ scoped.left (length locals.old.scope.declared) (spec.after s.now.kind (env locals.old))) }
-    ensures fault { IfOk result (λ found. found ≡ first (spec.statement_faults value (length locals.old.scope.declared) s.now.at s.now.kind (env locals.old))) }
+    ensures env { OnOk result (env locals.new ≡ form.behind s.now (env locals.old)) }
+    ensures fault { IfOk result (λ found. found ≡ first (form.inner_faults value s.now (env locals.old))) }
 {
     let count = locals.scope.declared.len();
     let found = statement(alloc, locals, value, count, s)?;
@@ -301,8 +397,8 @@ fn block(
 ) -> Result<Option<Fault>, AllocError>
     requires { IsTable locals.old.scope }
     ensures table { OnOk result (IsTable locals.new.scope) }
-    ensures env { OnOk result (env locals.new ≡ scoped.left (length locals.old.scope.declared) (spec.after_all body.now (env locals.old))) }
-    ensures fault { IfOk result (λ found. found ≡ first (spec.statements_faults value (length locals.old.scope.declared) body.now (env locals.old))) }
+    ensures env { OnOk result (env locals.new ≡ form.behind_all body.now (env locals.old)) }
+    ensures fault { IfOk result (λ found. found ≡ first (form.block_faults value body.now (env locals.old))) }
 {
     let count = locals.scope.declared.len();
     let found = statements(alloc, locals, value, count, body)?;

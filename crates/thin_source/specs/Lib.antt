@@ -1,10 +1,5 @@
-pub mod Answers
-pub mod Bodies
 pub mod Grammar
-pub mod Law
-pub mod Longest
 pub mod Names
-pub mod Reading
 pub mod Statements
 pub mod Thin
 pub mod Tokens

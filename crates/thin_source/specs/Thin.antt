@@ -41,11 +41,3 @@ pub record IsThin (source : Text) (program : Program) : Type 0 where
   pub few_words : all_words globals ≤ 2 ^ 20
   pub shallow : nesting ≤ 200
   pub few_nodes : nodes + length globals + 1 ≤ 65536
-
--- no program is one of the source
-abbrev pub HasNoProgram : Text → Type 0
-HasNoProgram source = (program : Program) → ¬ IsThin source program
-
--- one source has at most one program
-abbrev pub OneProgram : Type 0
-OneProgram = (source : Text) (p q : Program) → IsThin source p → IsThin source q → p ≡ q

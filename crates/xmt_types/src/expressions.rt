@@ -60,10 +60,11 @@ pub(crate) fn register_number(meaning: Option<Meaning>) -> u32
     }
 }
 
-fn node(at: Place, kind: ExprKind) -> Expr
-    ensures { result ≡ spec.node at kind }
+// A node, in a box from the start.
+fn node(alloc: Global, at: Place, kind: ExprKind) -> Result<Boxed<Expr>, AllocError>
+    ensures { IfOk result (λ made. made ≡ spec.node at kind) }
 {
-    Expr { at, kind }
+    Boxed::new(alloc, Expr { at, kind })
 }
 
 fn assigned(
@@ -71,75 +72,60 @@ fn assigned(
     at: Place,
     place: Spot,
     mark: Mark,
-    value: Expr,
-) -> Result<Expr, AllocError>
+    value: Boxed<Expr>,
+) -> Result<Boxed<Expr>, AllocError>
     ensures { IfOk result (λ made. made ≡ spec.node at (spec.assigned mark place value)) }
 {
-    let value = Boxed::new(alloc, value)?;
     match mark {
-        Mark::Equal => Ok(node(at, ExprKind::Assign(place, value))),
-        _ => Ok(node(at, ExprKind::Update(binary_of(mark), place, value))),
+        Mark::Equal => node(alloc, at, ExprKind::Assign(place, value)),
+        _ => node(alloc, at, ExprKind::Update(binary_of(mark), place, value)),
     }
 }
 
 // An expression that stands for none.
-fn nothing() -> Expr
-    ensures { result ≡ spec.nothing }
+fn nothing(alloc: Global) -> Result<Boxed<Expr>, AllocError>
+    ensures { IfOk result (λ made. made ≡ spec.nothing) }
 {
     let at = Place { line: 0, column: 0 };
-    node(at, ExprKind::Number(0))
+    node(alloc, at, ExprKind::Number(0))
 }
 
 // The two last parts of an expression.
 #[derive(Drop)]
 pub struct Pair {
-    pub left: Expr,
-    pub right: Expr,
-}
-
-// The same in boxes.
-#[derive(Drop)]
-pub struct BoxedPair {
-    pub at: Place,
     pub left: Boxed<Expr>,
     pub right: Boxed<Expr>,
 }
 
-fn box_pair(alloc: Global, parts: Pair) -> Result<BoxedPair, AllocError>
-    ensures { IfOk result (λ made. made ≡ record { at = parts.left.at; left = parts.left; right = parts.right }) }
-{
-    let Pair { left, right } = parts;
-    let at = left.at;
-    let left = Boxed::new(alloc, left)?;
-    let right = Boxed::new(alloc, right)?;
-    Ok(BoxedPair { at, left, right })
-}
-
-fn joined(alloc: Global, mark: Mark, parts: Pair) -> Result<Expr, AllocError>
+fn joined(alloc: Global, mark: Mark, parts: Pair) -> Result<Boxed<Expr>, AllocError>
     ensures { IfOk result (λ made. made ≡ spec.node parts.left.at (spec.joined mark parts.left parts.right)) }
 {
-    let BoxedPair { at, left, right } = box_pair(alloc, parts)?;
+    let Pair { left, right } = parts;
+    let at = left.get().at;
     match mark {
-        Mark::AndAnd => Ok(node(at, ExprKind::Both(left, right))),
-        Mark::OrOr => Ok(node(at, ExprKind::Either(left, right))),
-        _ => Ok(node(at, ExprKind::Binary(binary_of(mark), left, right))),
+        Mark::AndAnd => node(alloc, at, ExprKind::Both(left, right)),
+        Mark::OrOr => node(alloc, at, ExprKind::Either(left, right)),
+        _ => node(alloc, at, ExprKind::Binary(binary_of(mark), left, right)),
     }
 }
 
-fn chosen(alloc: Global, test: Expr, parts: Pair) -> Result<Expr, AllocError>
+fn chosen(alloc: Global, test: Boxed<Expr>, parts: Pair) -> Result<Boxed<Expr>, AllocError>
     ensures { IfOk result (λ made. made ≡ spec.chosen test parts.left parts.right) }
 {
-    let at = test.at;
-    let test = Boxed::new(alloc, test)?;
-    let BoxedPair { left, right, .. } = box_pair(alloc, parts)?;
-    Ok(node(at, ExprKind::Choose(test, left, right)))
+    let Pair { left, right } = parts;
+    let at = test.get().at;
+    node(alloc, at, ExprKind::Choose(test, left, right))
 }
 
-fn prefixed(alloc: Global, at: Place, mark: Mark, inner: Expr) -> Result<Expr, AllocError>
+fn prefixed(
+    alloc: Global,
+    at: Place,
+    mark: Mark,
+    inner: Boxed<Expr>,
+) -> Result<Boxed<Expr>, AllocError>
     ensures { IfOk result (λ made. made ≡ spec.prefixed at mark inner) }
 {
-    let inner = Boxed::new(alloc, inner)?;
-    Ok(node(at, ExprKind::Unary(unary_of(mark), inner)))
+    node(alloc, at, ExprKind::Unary(unary_of(mark), inner))
 }
 
 fn is_up(mark: Mark) -> bool
@@ -151,24 +137,27 @@ fn is_up(mark: Mark) -> bool
     }
 }
 
-fn element(alloc: Global, array: u32, index: Expr) -> Result<Spot, AllocError>
-    ensures { IfOk result (λ made. made ≡ spec.element array index) }
+fn element(array: u32, index: Boxed<Expr>) -> Spot
+    ensures { result ≡ spec.element array index }
 {
-    let index = Boxed::new(alloc, index)?;
-    Ok(Spot::Element(array, index))
+    Spot::Element(array, index)
 }
 
 /// The typed expression of a raw one.
 #[tactic(auto, unfolding(name_scopes::specs::Opened::opened))]
 #[cycle(typed)]
-pub(crate) fn expression(alloc: Global, scope: &Scope, e: &RawExpr) -> Result<Expr, AllocError>
+pub(crate) fn expression(
+    alloc: Global,
+    scope: &Scope,
+    e: &RawExpr,
+) -> Result<Boxed<Expr>, AllocError>
     requires { IsTable scope.now }
     ensures { IfOk result (λ made. made ≡ spec.typed scope.now.declared e.now.at e.now.kind) }
 {
     match &e.kind {
         RawExprKind::Assign(spot, mark, value) => {
-            let place = place(alloc, scope, spot)?;
             let value = expression(alloc, scope, value.get())?;
+            let place = place(alloc, scope, spot)?;
             assigned(alloc, e.at, place, *mark, value)
         }
         RawExprKind::Choose(test, _, _) => {
@@ -188,26 +177,26 @@ pub(crate) fn expression(alloc: Global, scope: &Scope, e: &RawExpr) -> Result<Ex
             let spot = place(alloc, scope, spot)?;
             let up = is_up(*mark);
             let after = false;
-            Ok(node(e.at, ExprKind::Step { spot, up, after }))
+            node(alloc, e.at, ExprKind::Step { spot, up, after })
         }
         RawExprKind::StepAfter(spot, mark) => {
             let spot = place(alloc, scope, spot)?;
             let up = is_up(*mark);
             let after = true;
-            Ok(node(e.at, ExprKind::Step { spot, up, after }))
+            node(alloc, e.at, ExprKind::Step { spot, up, after })
         }
         RawExprKind::Read(spot) => {
             let spot = place(alloc, scope, spot)?;
-            Ok(node(e.at, ExprKind::Read(spot)))
+            node(alloc, e.at, ExprKind::Read(spot))
         }
         #[tactic(auto)]
         RawExprKind::Call(name, values) => {
             let values = expressions(alloc, scope, values.as_slice())?;
             let function = function_number(meaning(scope, name));
-            Ok(node(e.at, ExprKind::Call(function, values)))
+            node(alloc, e.at, ExprKind::Call(function, values))
         }
-        RawExprKind::Number(value) => Ok(node(e.at, ExprKind::Number(*value))),
-        RawExprKind::Dollar => Ok(node(e.at, ExprKind::Dollar)),
+        RawExprKind::Number(value) => node(alloc, e.at, ExprKind::Number(*value)),
+        RawExprKind::Dollar => node(alloc, e.at, ExprKind::Dollar),
         RawExprKind::Brackets(inner) => expression(alloc, scope, inner.get()),
     }
 }
@@ -230,10 +219,11 @@ fn last_two(alloc: Global, scope: &Scope, e: &RawExpr) -> Result<Pair, AllocErro
             let right = expression(alloc, scope, right.get())?;
             Ok(Pair { left, right })
         }
-        _ => Ok(Pair {
-            left: nothing(),
-            right: nothing(),
-        }),
+        _ => {
+            let left = nothing(alloc)?;
+            let right = nothing(alloc)?;
+            Ok(Pair { left, right })
+        }
     }
 }
 
@@ -248,7 +238,7 @@ pub(crate) fn place(alloc: Global, scope: &Scope, spot: &RawSpot) -> Result<Spot
         RawSpot::Name(name) => Ok(variable(meaning(scope, name))),
         RawSpot::Element(name, index) => {
             let index = expression(alloc, scope, index.get())?;
-            element(alloc, array_number(meaning(scope, name)), index)
+            Ok(element(array_number(meaning(scope, name)), index))
         }
     }
 }
@@ -266,7 +256,7 @@ pub(crate) fn expressions(
     let mut made = Items::new(alloc);
     for e in values {
         let one = expression(alloc, scope, e)?;
-        made.push(one)?;
+        made.push(one.into_inner())?;
     }
     Ok(made)
 }
@@ -280,8 +270,7 @@ pub(crate) fn boxed_expression(
     requires { IsTable scope.now }
     ensures { IfOk result (λ made. made ≡ spec.expression scope.now.declared e.now) }
 {
-    let made = expression(alloc, scope, e)?;
-    Boxed::new(alloc, made)
+    expression(alloc, scope, e)
 }
 
 /// The typed expression of a raw one, where there is one.

@@ -1,14 +1,13 @@
 //! Typed statements.
-ghost use Rattle.std.specs.Prelude.{◌≡◌, ◌++◌, length, OnOk, IfOk};
+ghost use Rattle.std.specs.Prelude.{◌≡◌, ◌++◌, OnOk, IfOk};
 ghost use Rattle.name_scopes.specs.Locals.{env};
 ghost use Rattle.name_scopes.specs.Locals as scoped;
 ghost use Rattle.name_scopes.specs.Table.{IsTable};
-ghost use Rattle.name_faults.specs.Expressions.{meaning as meaning_of};
 ghost use Rattle.name_faults.specs.Statements as reach;
 ghost use Rattle.source_meaning.specs.declared.tree.StmtKind.TheVariants as s;
 ghost use Rattle.typed_programs.specs.Expressions as part;
 ghost use Rattle.typed_programs.specs.Statements as spec;
-ghost use Rattle.xmt_types.specs.Branches as branch;
+ghost use Rattle.xmt_types.specs.Statements as form;
 
 use crate::expressions::{
     boxed_expression, expressions, number, optional_expression, place, register_number, variable,
@@ -23,10 +22,11 @@ use sqlite_items::{Boxed, Items};
 use std::alloc::{AllocError, Global};
 use xmt_base::Place;
 
-fn node(at: Place, kind: StmtKind) -> Stmt
-    ensures { result ≡ spec.statement at kind }
+// A node, in a box from the start.
+fn node(alloc: Global, at: Place, kind: StmtKind) -> Result<Boxed<Stmt>, AllocError>
+    ensures { IfOk result (λ made. made ≡ spec.statement at kind) }
 {
-    Stmt { at, kind }
+    Boxed::new(alloc, Stmt { at, kind })
 }
 
 // One declared name with its initial value.
@@ -35,7 +35,7 @@ fn declare(
     locals: &mut Locals,
     constant: bool,
     local: &RawLocal,
-) -> Result<Stmt, AllocError>
+) -> Result<Boxed<Stmt>, AllocError>
     requires { IsTable locals.old.scope }
     ensures table { OnOk result (IsTable locals.new.scope) }
     ensures env { OnOk result (env locals.new ≡ scoped.declare_local constant local.now.name (env locals.old)) }
@@ -44,7 +44,7 @@ fn declare(
     let slot = number(locals.variables.len());
     let value = optional_expression(alloc, &locals.scope, &local.value)?;
     locals.declare(alloc, constant, &local.name)?;
-    Ok(node(local.name.at, StmtKind::Declare(slot, value)))
+    node(alloc, local.name.at, StmtKind::Declare(slot, value))
 }
 
 // A statement for each declared name, behind those that are made.
@@ -62,7 +62,7 @@ fn declarations(
     let constant = is_constant(decl.ty.qualifiers.as_slice());
     for local in decl.locals.as_slice() {
         let one = declare(alloc, locals, constant, local)?;
-        made.push(one)?;
+        made.push(one.into_inner())?;
     }
     Ok(())
 }
@@ -97,7 +97,8 @@ fn first_value(
         None => Ok(made),
         Some(e) => {
             let value = boxed_expression(alloc, scope, e.get())?;
-            made.push(node(e.get().at, StmtKind::Value(value)))?;
+            let one = node(alloc, e.get().at, StmtKind::Value(value))?;
+            made.push(one.into_inner())?;
             Ok(made)
         }
     }
@@ -141,7 +142,7 @@ fn steps(
     third: &Option<Boxed<RawExpr>>,
 ) -> Result<LoopParts, AllocError>
     requires { IsTable scope.now }
-    ensures { IfOk result (λ made. made ≡ record { test = part.option scope.now.declared test.now; third = part.option scope.now.declared third.now }) }
+    ensures { IfOk result (λ made. made ≡ form.steps test.now third.now scope.now.declared) }
 {
     let test = optional_expression(alloc, scope, test)?;
     let third = optional_expression(alloc, scope, third)?;
@@ -158,18 +159,23 @@ fn for_head(
     requires { IsTable locals.old.scope }
     ensures table { OnOk result (IsTable locals.new.scope) }
     ensures env { OnOk result (env locals.new ≡ reach.after_first begin.now (env locals.old)) }
-    ensures made { IfOk result (λ made. made ≡ record { first = spec.first_of begin.now (env locals.old); test = part.option (reach.after_first begin.now (env locals.old)).declared test.now; third = part.option (reach.after_first begin.now (env locals.old)).declared third.now }) }
+    ensures made { IfOk result (λ made. made ≡ form.for_head begin.now test.now third.now (env locals.old)) }
 {
     let first = first_part(alloc, locals, begin)?;
     let LoopParts { test, third } = steps(alloc, &locals.scope, test, third)?;
     Ok(ForHead { first, test, third })
 }
 
-fn looped(at: Place, head: ForHead, body: Boxed<Stmt>) -> Stmt
-    ensures { result ≡ spec.statement at (s.For head.first head.test head.third body) }
+fn looped(
+    alloc: Global,
+    at: Place,
+    head: ForHead,
+    body: Boxed<Stmt>,
+) -> Result<Boxed<Stmt>, AllocError>
+    ensures { IfOk result (λ made. made ≡ spec.statement at (s.For head.first head.test head.third body)) }
 {
     let ForHead { first, test, third } = head;
-    node(at, StmtKind::For(first, test, third, body))
+    node(alloc, at, StmtKind::For(first, test, third, body))
 }
 
 // The bounds of a spawn.
@@ -186,26 +192,31 @@ fn bounds(
     high: &RawExpr,
 ) -> Result<SpawnBounds, AllocError>
     requires { IsTable scope.now }
-    ensures { IfOk result (λ made. made ≡ record { low = part.expression scope.now.declared low.now; high = part.expression scope.now.declared high.now }) }
+    ensures { IfOk result (λ made. made ≡ form.bounds low.now high.now scope.now.declared) }
 {
     let low = boxed_expression(alloc, scope, low)?;
     let high = boxed_expression(alloc, scope, high)?;
     Ok(SpawnBounds { low, high })
 }
 
-fn spawned(at: Place, bounds: SpawnBounds, body: Items<Stmt>) -> Stmt
-    ensures { result ≡ spec.statement at (s.Spawn bounds.low bounds.high body) }
+fn spawned(
+    alloc: Global,
+    at: Place,
+    bounds: SpawnBounds,
+    body: Items<Stmt>,
+) -> Result<Boxed<Stmt>, AllocError>
+    ensures { IfOk result (λ made. made ≡ spec.statement at (s.Spawn bounds.low bounds.high body)) }
 {
     let SpawnBounds { low, high } = bounds;
-    node(at, StmtKind::Spawn(low, high, body))
+    node(alloc, at, StmtKind::Spawn(low, high, body))
 }
 
-fn dropped(alloc: Global, scope: &Scope, at: Place, e: &RawExpr) -> Result<Stmt, AllocError>
+fn dropped(alloc: Global, scope: &Scope, at: Place, e: &RawExpr) -> Result<Boxed<Stmt>, AllocError>
     requires { IsTable scope.now }
     ensures { IfOk result (λ made. made ≡ spec.statement at (s.Value (part.expression scope.now.declared e.now))) }
 {
     let e = boxed_expression(alloc, scope, e)?;
-    Ok(node(at, StmtKind::Value(e)))
+    node(alloc, at, StmtKind::Value(e))
 }
 
 fn returned(
@@ -213,21 +224,27 @@ fn returned(
     scope: &Scope,
     at: Place,
     e: &Option<Boxed<RawExpr>>,
-) -> Result<Stmt, AllocError>
+) -> Result<Boxed<Stmt>, AllocError>
     requires { IsTable scope.now }
     ensures { IfOk result (λ made. made ≡ spec.statement at (s.Return (part.option scope.now.declared e.now))) }
 {
     let e = optional_expression(alloc, scope, e)?;
-    Ok(node(at, StmtKind::Return(e)))
+    node(alloc, at, StmtKind::Return(e))
 }
 
-fn sum(scope: &Scope, at: Place, name: &RawName, register: &RawName) -> Stmt
+fn sum(
+    alloc: Global,
+    scope: &Scope,
+    at: Place,
+    name: &RawName,
+    register: &RawName,
+) -> Result<Boxed<Stmt>, AllocError>
     requires { IsTable scope.now }
-    ensures { result ≡ spec.statement at (s.Ps (part.variable (meaning_of scope.now.declared name.now)) (part.register_number (meaning_of scope.now.declared register.now))) }
+    ensures { IfOk result (λ made. made ≡ form.sum at name.now register.now scope.now.declared) }
 {
     let spot = variable(meaning(scope, name));
     let register = register_number(meaning(scope, register));
-    node(at, StmtKind::Ps(spot, register))
+    node(alloc, at, StmtKind::Ps(spot, register))
 }
 
 fn memory_sum(
@@ -236,13 +253,13 @@ fn memory_sum(
     at: Place,
     name: &RawName,
     spot: &RawSpot,
-) -> Result<Stmt, AllocError>
+) -> Result<Boxed<Stmt>, AllocError>
     requires { IsTable scope.now }
-    ensures { IfOk result (λ made. made ≡ spec.statement at (s.Psm (part.variable (meaning_of scope.now.declared name.now)) (part.typed_spot scope.now.declared spot.now))) }
+    ensures { IfOk result (λ made. made ≡ form.memory_sum at name.now spot.now scope.now.declared) }
 {
     let summed = variable(meaning(scope, name));
     let spot = place(alloc, scope, spot)?;
-    Ok(node(at, StmtKind::Psm(summed, spot)))
+    node(alloc, at, StmtKind::Psm(summed, spot))
 }
 
 fn printed(
@@ -251,33 +268,60 @@ fn printed(
     at: Place,
     text: &RawText,
     values: &[RawExpr],
-) -> Result<Stmt, AllocError>
+) -> Result<Boxed<Stmt>, AllocError>
     requires { IsTable scope.now }
     ensures { IfOk result (λ made. made ≡ spec.statement at (s.Print text.now.bytes (part.expressions scope.now.declared values.now))) }
 {
     let values = expressions(alloc, scope, values)?;
     let text = Items::from_slice(alloc, text.bytes.as_slice())?;
-    Ok(node(at, StmtKind::Print(text, values)))
+    node(alloc, at, StmtKind::Print(text, values))
 }
 
-// An `if` as far as its first branch.
+// An `if` as far as its first form.
 #[derive(Drop)]
 pub struct IfHead {
     pub test: Boxed<Expr>,
     pub body: Boxed<Stmt>,
 }
 
-fn conditional(at: Place, head: IfHead, other: Option<Boxed<Stmt>>) -> Stmt
-    ensures { result ≡ spec.statement at (s.If head.test head.body other) }
+fn conditional(
+    alloc: Global,
+    at: Place,
+    head: IfHead,
+    other: Option<Boxed<Stmt>>,
+) -> Result<Boxed<Stmt>, AllocError>
+    ensures { IfOk result (λ made. made ≡ spec.statement at (s.If head.test head.body other)) }
 {
     let IfHead { test, body } = head;
-    node(at, StmtKind::If(test, body, other))
+    node(alloc, at, StmtKind::If(test, body, other))
+}
+
+fn nested(alloc: Global, at: Place, body: Items<Stmt>) -> Result<Boxed<Stmt>, AllocError>
+    ensures { IfOk result (λ made. made ≡ spec.statement at (s.Block body)) }
+{
+    node(alloc, at, StmtKind::Block(body))
+}
+
+// A declaration where one statement is wanted: a block of its own.
+fn declared_alone(
+    alloc: Global,
+    locals: &mut Locals,
+    at: Place,
+    decl: &RawDecl,
+) -> Result<Boxed<Stmt>, AllocError>
+    requires { IsTable locals.old.scope }
+    ensures table { OnOk result (IsTable locals.new.scope) }
+    ensures env { OnOk result (env locals.new ≡ reach.after_decl decl.now (env locals.old)) }
+    ensures made { IfOk result (λ made. made ≡ spec.statement at (s.Block (spec.declares_of decl.now (env locals.old)))) }
+{
+    let body = declaration(alloc, locals, decl)?;
+    nested(alloc, at, body)
 }
 
 // A statement where one statement is wanted.
 #[tactic(auto, unfolding(name_scopes::specs::Opened::opened))]
 #[cycle(statements)]
-fn statement(alloc: Global, locals: &mut Locals, s: &RawStmt) -> Result<Stmt, AllocError>
+fn statement(alloc: Global, locals: &mut Locals, s: &RawStmt) -> Result<Boxed<Stmt>, AllocError>
     requires { IsTable locals.old.scope }
     ensures table { OnOk result (IsTable locals.new.scope) }
     ensures env { OnOk result (env locals.new ≡ reach.after s.now.kind (env locals.old)) }
@@ -285,48 +329,30 @@ fn statement(alloc: Global, locals: &mut Locals, s: &RawStmt) -> Result<Stmt, Al
 {
     match &s.kind {
         #[tactic(auto)]
-        RawStmtKind::Block(body) => {
-            let body = block(alloc, locals, body.as_slice())?;
-            Ok(node(s.at, StmtKind::Block(body)))
-        }
-        RawStmtKind::Decl(decl) => {
-            let body = declaration(alloc, locals, decl.get())?;
-            Ok(node(s.at, StmtKind::Block(body)))
-        }
-        RawStmtKind::Empty => Ok(node(s.at, StmtKind::Empty)),
+        RawStmtKind::Block(body) => block_statement(alloc, locals, s.at, body.as_slice()),
+        RawStmtKind::Decl(decl) => declared_alone(alloc, locals, s.at, decl.get()),
+        RawStmtKind::Empty => node(alloc, s.at, StmtKind::Empty),
         RawStmtKind::Value(e) => dropped(alloc, &locals.scope, s.at, e.get()),
         RawStmtKind::If(test, body, other) => {
             let head = if_head(alloc, locals, body.get(), test.get())?;
             let other = other_branch(alloc, locals, other)?;
-            Ok(conditional(s.at, head, other))
+            conditional(alloc, s.at, head, other)
         }
         RawStmtKind::While(test, body) => {
-            let test = boxed_expression(alloc, &locals.scope, test.get())?;
-            let body = inner(alloc, locals, body.get())?;
-            Ok(node(s.at, StmtKind::While(test, body)))
+            while_loop(alloc, locals, s.at, body.get(), test.get())
         }
-        RawStmtKind::Do(body, test) => {
-            let test = boxed_expression(alloc, &locals.scope, test.get())?;
-            let body = inner(alloc, locals, body.get())?;
-            Ok(node(s.at, StmtKind::Do(body, test)))
-        }
+        RawStmtKind::Do(body, test) => do_loop(alloc, locals, s.at, body.get(), test.get()),
         RawStmtKind::For(begin, test, third, body) => {
-            let count = locals.scope.declared.len();
-            let head = for_head(alloc, locals, begin.get(), test, third)?;
-            let made = for_loop(alloc, locals, s.at, head, body.get())?;
-            locals.leave(alloc, count)?;
-            Ok(made)
+            for_loop(alloc, locals, s.at, body.get(), begin.get(), test, third)
         }
-        RawStmtKind::Break => Ok(node(s.at, StmtKind::Break)),
-        RawStmtKind::Continue => Ok(node(s.at, StmtKind::Continue)),
+        RawStmtKind::Break => node(alloc, s.at, StmtKind::Break),
+        RawStmtKind::Continue => node(alloc, s.at, StmtKind::Continue),
         RawStmtKind::Return(e) => returned(alloc, &locals.scope, s.at, e),
         #[tactic(auto)]
         RawStmtKind::Spawn(low, high, body) => {
-            let bounds = bounds(alloc, &locals.scope, low.get(), high.get())?;
-            let body = block(alloc, locals, body.as_slice())?;
-            Ok(spawned(s.at, bounds, body))
+            spawn_block(alloc, locals, s.at, body.as_slice(), low.get(), high.get())
         }
-        RawStmtKind::Ps(name, register) => Ok(sum(&locals.scope, s.at, name, register)),
+        RawStmtKind::Ps(name, register) => sum(alloc, &locals.scope, s.at, name, register),
         RawStmtKind::Psm(name, spot) => memory_sum(alloc, &locals.scope, s.at, name, spot.get()),
         RawStmtKind::Print(text, values) => {
             printed(alloc, &locals.scope, s.at, text, values.as_slice())
@@ -334,26 +360,122 @@ fn statement(alloc: Global, locals: &mut Locals, s: &RawStmt) -> Result<Stmt, Al
     }
 }
 
-// The rest of a loop behind its head.
+#[tactic(auto)]
+#[cycle(statements)]
+fn block_statement(
+    alloc: Global,
+    locals: &mut Locals,
+    at: Place,
+    body: &[RawStmt],
+) -> Result<Boxed<Stmt>, AllocError>
+    requires { IsTable locals.old.scope }
+    ensures table { OnOk result (IsTable locals.new.scope) }
+    ensures env { OnOk result (env locals.new ≡ form.behind_all body.now (env locals.old)) }
+    ensures made { IfOk result (λ made. made ≡ spec.statement at (s.Block (spec.typed_all body.now (env locals.old)))) }
+{
+    let body = block(alloc, locals, body)?;
+    nested(alloc, at, body)
+}
+
+#[tactic(auto, unfolding(name_scopes::specs::Opened::opened))]
+#[cycle(statements)]
+fn while_loop(
+    alloc: Global,
+    locals: &mut Locals,
+    at: Place,
+    body: &RawStmt,
+    test: &RawExpr,
+) -> Result<Boxed<Stmt>, AllocError>
+    requires { IsTable locals.old.scope }
+    ensures table { OnOk result (IsTable locals.new.scope) }
+    ensures env { OnOk result (env locals.new ≡ form.behind body.now (env locals.old)) }
+    ensures made { IfOk result (λ made. made ≡ form.while_loop at test.now body.now (env locals.old)) }
+{
+    let IfHead { test, body } = if_head(alloc, locals, body, test)?;
+    node(alloc, at, StmtKind::While(test, body))
+}
+
+#[tactic(auto, unfolding(name_scopes::specs::Opened::opened))]
+#[cycle(statements)]
+fn do_loop(
+    alloc: Global,
+    locals: &mut Locals,
+    at: Place,
+    body: &RawStmt,
+    test: &RawExpr,
+) -> Result<Boxed<Stmt>, AllocError>
+    requires { IsTable locals.old.scope }
+    ensures table { OnOk result (IsTable locals.new.scope) }
+    ensures env { OnOk result (env locals.new ≡ form.behind body.now (env locals.old)) }
+    ensures made { IfOk result (λ made. made ≡ form.do_loop at body.now test.now (env locals.old)) }
+{
+    let IfHead { test, body } = if_head(alloc, locals, body, test)?;
+    node(alloc, at, StmtKind::Do(body, test))
+}
+
 #[tactic(auto, unfolding(name_scopes::specs::Opened::opened))]
 #[cycle(statements)]
 fn for_loop(
     alloc: Global,
     locals: &mut Locals,
     at: Place,
-    head: ForHead,
     body: &RawStmt,
-) -> Result<Stmt, AllocError>
+    begin: &RawFirst,
+    test: &Option<Boxed<RawExpr>>,
+    third: &Option<Boxed<RawExpr>>,
+) -> Result<Boxed<Stmt>, AllocError>
     requires { IsTable locals.old.scope }
     ensures table { OnOk result (IsTable locals.new.scope) }
-    ensures env { OnOk result (env locals.new ≡ scoped.left (length locals.old.scope.declared) (reach.after body.now.kind (env locals.old))) }
-    ensures made { IfOk result (λ made. made ≡ spec.statement at (s.For head.first head.test head.third (spec.typed body.now.at body.now.kind (env locals.old)))) }
+    ensures env { OnOk result (env locals.new ≡ form.after_for begin.now body.now (env locals.old)) }
+    ensures made { IfOk result (λ made. made ≡ form.for_loop at begin.now test.now third.now body.now (env locals.old)) }
 {
-    let body = inner(alloc, locals, body)?;
-    Ok(looped(at, head, body))
+    let count = locals.scope.declared.len();
+    let head = for_head(alloc, locals, begin, test, third)?;
+    let made = rest_of_loop(alloc, locals, at, head, body)?;
+    locals.leave(alloc, count)?;
+    Ok(made)
 }
 
-// The test and the first branch of an `if`.
+// The rest of a loop behind its head.
+#[tactic(auto, unfolding(name_scopes::specs::Opened::opened))]
+#[cycle(statements)]
+fn rest_of_loop(
+    alloc: Global,
+    locals: &mut Locals,
+    at: Place,
+    head: ForHead,
+    body: &RawStmt,
+) -> Result<Boxed<Stmt>, AllocError>
+    requires { IsTable locals.old.scope }
+    ensures table { OnOk result (IsTable locals.new.scope) }
+    ensures env { OnOk result (env locals.new ≡ form.behind body.now (env locals.old)) }
+    ensures made { IfOk result (λ made. made ≡ spec.statement at (s.For head.first head.test head.third (form.typed body.now (env locals.old)))) }
+{
+    let body = inner(alloc, locals, body)?;
+    looped(alloc, at, head, body)
+}
+
+#[tactic(auto)]
+#[cycle(statements)]
+fn spawn_block(
+    alloc: Global,
+    locals: &mut Locals,
+    at: Place,
+    body: &[RawStmt],
+    low: &RawExpr,
+    high: &RawExpr,
+) -> Result<Boxed<Stmt>, AllocError>
+    requires { IsTable locals.old.scope }
+    ensures table { OnOk result (IsTable locals.new.scope) }
+    ensures env { OnOk result (env locals.new ≡ form.behind_all body.now (env locals.old)) }
+    ensures made { IfOk result (λ made. made ≡ form.spawn_block at low.now high.now body.now (env locals.old)) }
+{
+    let bounds = bounds(alloc, &locals.scope, low, high)?;
+    let body = block(alloc, locals, body)?;
+    spawned(alloc, at, bounds, body)
+}
+
+// The test and the first branch of an `if`, or the test and the body of a loop.
 #[tactic(auto, unfolding(name_scopes::specs::Opened::opened))]
 #[cycle(statements)]
 fn if_head(
@@ -364,8 +486,8 @@ fn if_head(
 ) -> Result<IfHead, AllocError>
     requires { IsTable locals.old.scope }
     ensures table { OnOk result (IsTable locals.new.scope) }
-    ensures env { OnOk result (env locals.new ≡ scoped.left (length locals.old.scope.declared) (reach.after body.now.kind (env locals.old))) }
-    ensures made { IfOk result (λ made. made ≡ record { test = part.expression locals.old.scope.declared test.now; body = spec.typed body.now.at body.now.kind (env locals.old) }) }
+    ensures env { OnOk result (env locals.new ≡ form.behind body.now (env locals.old)) }
+    ensures made { IfOk result (λ made. made ≡ form.if_head test.now body.now (env locals.old)) }
 {
     let test = boxed_expression(alloc, &locals.scope, test)?;
     let body = inner(alloc, locals, body)?;
@@ -381,8 +503,8 @@ fn other_branch(
 ) -> Result<Option<Boxed<Stmt>>, AllocError>
     requires { IsTable locals.old.scope }
     ensures table { OnOk result (IsTable locals.new.scope) }
-    ensures env { OnOk result (env locals.new ≡ branch.after_other other.now (env locals.old)) }
-    ensures made { IfOk result (λ made. made ≡ branch.other_of other.now (env locals.old)) }
+    ensures env { OnOk result (env locals.new ≡ form.after_other other.now (env locals.old)) }
+    ensures made { IfOk result (λ made. made ≡ form.other_of other.now (env locals.old)) }
 {
     match other {
         None => Ok(None),
@@ -399,13 +521,13 @@ fn other_branch(
 fn inner(alloc: Global, locals: &mut Locals, s: &RawStmt) -> Result<Boxed<Stmt>, AllocError>
     requires { IsTable locals.old.scope }
     ensures table { OnOk result (IsTable locals.new.scope) }
-    ensures env { OnOk result (env locals.new ≡ scoped.left (length locals.old.scope.declared) (reach.after s.now.kind (env locals.old))) }
-    ensures made { IfOk result (λ made. made ≡ spec.typed s.now.at s.now.kind (env locals.old)) }
+    ensures env { OnOk result (env locals.new ≡ form.behind s.now (env locals.old)) }
+    ensures made { IfOk result (λ made. made ≡ form.typed s.now (env locals.old)) }
 {
     let count = locals.scope.declared.len();
     let made = statement(alloc, locals, s)?;
     locals.leave(alloc, count)?;
-    Boxed::new(alloc, made)
+    Ok(made)
 }
 
 // Statements that are a scope of their own.
@@ -414,7 +536,7 @@ fn inner(alloc: Global, locals: &mut Locals, s: &RawStmt) -> Result<Boxed<Stmt>,
 fn block(alloc: Global, locals: &mut Locals, body: &[RawStmt]) -> Result<Items<Stmt>, AllocError>
     requires { IsTable locals.old.scope }
     ensures table { OnOk result (IsTable locals.new.scope) }
-    ensures env { OnOk result (env locals.new ≡ scoped.left (length locals.old.scope.declared) (reach.after_all body.now (env locals.old))) }
+    ensures env { OnOk result (env locals.new ≡ form.behind_all body.now (env locals.old)) }
     ensures made { IfOk result (λ made. made ≡ spec.typed_all body.now (env locals.old)) }
 {
     let count = locals.scope.declared.len();
@@ -441,7 +563,7 @@ fn add(
         RawStmtKind::Decl(decl) => declarations(alloc, locals, made, decl.get()),
         _ => {
             let one = statement(alloc, locals, s)?;
-            made.push(one)?;
+            made.push(one.into_inner())?;
             Ok(())
         }
     }

@@ -1,4 +1,5 @@
 use Rattle.std.proofs.Common.{rules, ◌≡◌, ◌∙◌, ap, sym}
+use Rattle.name_faults.proofs.Rows.{if_ok_then}
 use Rattle.source_meaning.specs.declared.tree.ExprKind.TheVariants as e
 use Rattle.typed_programs.specs.Expressions as spec
 use Rattle.name_faults.specs.Expressions.{meaning}
@@ -12,7 +13,7 @@ expression-returns-in_ok-values-in-Call t c =
     let function : c.function_number-function.result ≡ spec.function_number (meaning c.args.scope.now.declared c.in-Call.name) = search rules in
     let values : c.in_ok-values-in-Call.values ≡ spec.expressions c.args.scope.now.declared c.in-Call.values =
     c.in_ok-values-in-Call.ensures ∙ ap (spec.expressions c.args.scope.now.declared) c.as_slice.ensures in
-    c.node-in-Call.ensures
-    ∙ ap (λ f. spec.node c.args.e.now.at (e.Call f c.in_ok-values-in-Call.values)) function
+    if_ok_then _ c.node-in-Call.ensures
+    (ap (λ f. spec.node c.args.e.now.at (e.Call f c.in_ok-values-in-Call.values)) function
     ∙ ap (λ made. spec.node c.args.e.now.at (e.Call (spec.function_number (meaning c.args.scope.now.declared c.in-Call.name)) made)) values
-    ∙ sym is
+    ∙ sym is)

@@ -1,0 +1,10 @@
+//! Thin sources, which are stated by themselves, are accepted by the rules of the whole language.
+#![tactic(auto)]
+
+ghost use Rattle.thin_law.specs.Law.{ThinSourcesAreAccepted};
+
+/// A thin source is accepted by the rules of the whole language, as the same program. It does
+/// nothing when it runs.
+pub fn thin_sources_are_accepted()
+    ensures { ThinSourcesAreAccepted }
+{}
