@@ -1,4 +1,5 @@
-//! Thin sources, which are stated by themselves, are accepted by the rules of the whole language.
+//! Law `thin_sources_are_accepted`: a thin source is accepted by the rules of the whole language, as the same
+//! program.
 #![tactic(auto)]
 
 ghost use Rattle.thin_law.specs.Law.{ThinSourcesAreAccepted};

@@ -1,5 +1,4 @@
-//! Thin sources: globals, and a `main` of assignments and prints with at most one spawn, without
-//! branches, loops, calls and locals. Definitions alone: which sources are thin, and the program
+//! A small part of the language, stated by itself as a definition: which bytes are a thin source, and the program
 //! of each.
 #![tactic(auto)]
 
