@@ -61,10 +61,11 @@ for_head begin test third env =
 abbrev pub after_for : RawFirst → RawStmt → Env → Env
 after_for begin body env = left (length env.declared) (behind body (after_first begin env))
 
+abbrev pub looped : Place → ForHead → Stmt → Stmt
+looped at head body = spec.statement at (s.For head.first head.test head.third body)
+
 abbrev pub for_loop : Place → RawFirst → Option RawExpr → Option RawExpr → RawStmt → Env → Stmt
-for_loop at begin test third body env =
-    let head = for_head begin test third env in
-    spec.statement at (s.For head.first head.test head.third (typed body (after_first begin env)))
+for_loop at begin test third body env = looped at (for_head begin test third env) (typed body (after_first begin env))
 
 abbrev pub bounds : RawExpr → RawExpr → List Declared → SpawnBounds
 bounds low high ds = record { low = expression ds low; high = expression ds high }

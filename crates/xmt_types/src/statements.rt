@@ -172,7 +172,7 @@ fn looped(
     head: ForHead,
     body: Boxed<Stmt>,
 ) -> Result<Boxed<Stmt>, AllocError>
-    ensures { IfOk result (λ made. made ≡ spec.statement at (s.For head.first head.test head.third body)) }
+    ensures { IfOk result (λ made. made ≡ form.looped at head body) }
 {
     let ForHead { first, test, third } = head;
     node(alloc, at, StmtKind::For(first, test, third, body))
@@ -449,7 +449,7 @@ fn rest_of_loop(
     requires { IsTable locals.old.scope }
     ensures table { OnOk result (IsTable locals.new.scope) }
     ensures env { OnOk result (env locals.new ≡ form.behind body.now (env locals.old)) }
-    ensures made { IfOk result (λ made. made ≡ spec.statement at (s.For head.first head.test head.third (form.typed body.now (env locals.old)))) }
+    ensures made { IfOk result (λ made. made ≡ form.looped at head (form.typed body.now (env locals.old))) }
 {
     let body = inner(alloc, locals, body)?;
     looped(alloc, at, head, body)
