@@ -1,5 +1,5 @@
 -- A thin source is accepted, as the same program.
-use Rattle.std.proofs.Common.{◌≡◌, ap, sym, subst, refl, ℕ, ◌+◌, ◌*◌, ◌^◌, ◌≤◌, length, List, Ok, arith}
+use Rattle.std.proofs.Common.{◌≡◌, ap, refl, ℕ, ◌^◌, ◌≤◌, List, arith}
 use Rattle.source_meaning.specs.declared.tree.Program.{Program}
 use Rattle.source_meaning.specs.Layout.{all_words}
 use Rattle.raw_tree.specs.declared.tree.RawProgram.{RawProgram}
@@ -9,7 +9,7 @@ use Rattle.thin_source.specs.Thin.{IsThin, main_program}
 use Rattle.thin_law.proofs.Spelled.{HasItems, thin_items}
 use Rattle.thin_law.proofs.Resolved.{resolves}
 use Rattle.thin_law.proofs.Spawns.{no_refusal}
-use Rattle.front_end.specs.Refused.{IsTree, IsAccepted}
+use Rattle.front_end.specs.Refused.{IsAccepted}
 
 -- a thin program shares no variable, and its globals have few words
 few_words : (source : List ℕ) (program : Program) → IsThin source program → words_of program ≤ 2 ^ 20

@@ -20,7 +20,7 @@ use Rattle.name_scopes.specs.declared.scope.Meaning.{Meaning}
 use Rattle.name_scopes.specs.declared.scope.Meaning.TheVariants as means
 use Rattle.name_scopes.specs.declared.scope.Declared.{Declared}
 use Rattle.name_faults.specs.Expressions.{meaning, variable_fault, array_fault, write_fault, written, faults, faults_of_spot}
-use Rattle.typed_programs.specs.Expressions.{number, variable, array_number, typed, typed_spot, expression, joined, node}
+use Rattle.typed_programs.specs.Expressions.{number, variable, array_number, typed_spot, expression, joined, node}
 use Rattle.thin_law.proofs.Trees as of
 use Rattle.thin_law.proofs.Trees.{number_of, IsMark, OfSpot, OfExpr}
 use Rattle.thin_law.proofs.Clean.{IsClean, nothing, neither}
