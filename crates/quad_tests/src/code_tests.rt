@@ -104,7 +104,7 @@ fn loop_is_emitted(rt: HostRuntime) -> Result<(), Fail> {
     let program = quads_of(alloc, COUNTDOWN)?;
     let image = image_of(alloc, &program)?;
     assert_eq!(rt; image.code.len(), code().len());
-    for (i, wanted) in image.code.iter().zip(code().iter()) {
+    for (i, wanted) in image.code.as_slice().iter().zip(code().iter()) {
         assert_eq!(rt; (i.op, i.a, i.b, i.c, i.imm), *wanted);
     }
     let main = [FunctionEntry {

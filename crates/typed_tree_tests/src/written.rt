@@ -16,16 +16,28 @@ const HERE: Place = Place { line: 1, column: 1 };
 /// this number on, when they stand in the block of a spawn.
 pub fn written_in(alloc: Global, program: Program, outside: i64) -> Result<String, AllocError> {
     let mut program = program;
-    let Some(function) = program.functions.pop() else {
-        return String::from_str(alloc, "no function");
-    };
-    let variables = function.variables;
+    match program.functions.pop() {
+        Some(function) => {
+            let variables = function.variables;
+            written_by(alloc, block_of(function, outside), variables)
+        }
+        None => String::from_str(alloc, "no function"),
+    }
+}
+
+// The statements of a function from the one with this number on.
+fn block_of(function: Function, outside: i64) -> Items<Stmt> {
     let mut block = function.body;
     for _ in 0..outside {
         if block.len() > 0 {
             block.remove(0);
         }
     }
+    block
+}
+
+// The numbers of the variables that a block writes.
+fn written_by(alloc: Global, block: Items<Stmt>, variables: u32) -> Result<String, AllocError> {
     let program = program_with(alloc, block, variables)?;
     let written = written_inside(alloc, &program, 0, 0)?;
     listed(alloc, written.as_slice())
