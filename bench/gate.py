@@ -1,7 +1,7 @@
 #!/usr/bin/env python3
-"""Measures the gate: runs `rt ci --anew` (or, with words, `rt ci` with these) and prints what each crate cost.
+"""Measures what the crates cost: runs `rt ci --anew`, or the command that is given, and prints a table.
 
-usage: bench/gate.py [WORD ..] [> TABLE]
+usage: bench/gate.py [COMMAND [WORD ..]] [> TABLE]      as bench/gate.py ./xmt run examples/compaction.xmtc
 
 A row is a crate with its processor minutes (user and system time) of its proof, of its must-fail edits with the check
 that they begin with, and of its tests. The times are read from the system while the checks run, four times a second,
@@ -67,7 +67,7 @@ def sample(root, seen, labels):
 
 
 def main():
-    words = ["rt", "ci", *(sys.argv[1:] or ["--anew"])]
+    words = sys.argv[1:] or ["rt", "ci", "--anew"]
     began, seen, labels = time.time(), {}, {}
     with subprocess.Popen(words, stdout=sys.stderr, stdin=subprocess.DEVNULL) as run:
         while run.poll() is None:
