@@ -1,5 +1,5 @@
 -- An accepted source breaks no rule.
-use Rattle.std.proofs.Common.{◌≡◌, ◌∙◌, ap, sym, subst, refl, ℕ, ◌^◌, ◌<◌, ◌≤◌, length, List, Ok, Err, Some, None, arith}
+use Rattle.std.proofs.Common.{◌≡◌, ◌∙◌, ap, sym, subst, refl, ℕ, List, Ok, Some, None, arith}
 use Rattle.xmt_base.specs.declared.Place.{Place}
 use Rattle.xmt_lex.specs.declared.LexKind.{LexKind}
 use Rattle.xmt_lex.specs.declared.Token.{Token}
@@ -8,15 +8,12 @@ use Rattle.raw_tree.specs.declared.tree.RawItem.{RawItem}
 use Rattle.raw_tree.specs.declared.tree.RawProgram.{RawProgram}
 use Rattle.raw_tree.proofs.Program.{one_program}
 use Rattle.xmt_parse.specs.Deep.{too_deep}
-use Rattle.xmt_parse.specs.Law.{IsSpelled, end_of}
-use Rattle.name_scopes.specs.declared.fault.NameKind.{NameKind}
+use Rattle.xmt_parse.specs.Law.{IsSpelled}
 use Rattle.name_scopes.specs.Fault as names
 use Rattle.name_faults.specs.Items.{program_faults}
 use Rattle.typed_programs.specs.Items.{Resolves, program}
 use Rattle.source_meaning.specs.declared.tree.Program.{Program}
-use Rattle.spawn_check.specs.declared.refusal.SpawnKind.{SpawnKind}
 use Rattle.spawn_check.specs.Table as blocks
-use Rattle.spawn_check.specs.Words.{words_of}
 use Rattle.front_end.specs.declared.refusal.SourceKind.{SourceKind}
 use Rattle.front_end.specs.Law.{SourcesHaveOneProgram, BrokenSourcesHaveNone}
 use Rattle.front_end.specs.Refused.{HasTokens, IsTree, HasNoTree, HasManyWords, OfTokens, OfTree, OfProgram, BreaksTokens, IsAccepted, Breaks, length_is_broken, tokens_are_broken, brackets_are_broken, grammar_is_broken, names_are_broken, blocks_are_broken, words_are_broken}

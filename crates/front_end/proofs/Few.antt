@@ -1,5 +1,5 @@
 -- A tree that breaks no rule has at most 1,000 functions.
-use Rattle.std.proofs.Common.{◌≡◌, ◌∙◌, ap, sym, subst, refl, inl, inr, ℕ, suc, ◌+◌, ◌≤◌, ◌<◌, length, List, [], ◌∷◌, ◌++◌, Option, Some, None, Bool, arith}
+use Rattle.std.proofs.Common.{◌≡◌, ◌∙◌, ap, refl, inl, inr, ℕ, ◌+◌, ◌≤◌, ◌<◌, length, List, [], ◌∷◌, ◌++◌, Option, Some, None, Bool, arith}
 use Rattle.std.specs.Prelude.{slice_get, get_or, ◌⊎◌}
 use Rattle.std.proofs.lemmas.List.{length-append}
 use Rattle.std.proofs.lemmas.Option.{slice_get_cases}
@@ -15,12 +15,11 @@ use Rattle.name_scopes.specs.declared.fault.Which.TheVariants as which
 use Rattle.name_scopes.specs.declared.fault.NameKind.TheVariants as kind
 use Rattle.name_scopes.specs.declared.fault.Fault.{Fault}
 use Rattle.name_scopes.specs.declared.scope.Declared.{Declared}
-use Rattle.name_scopes.specs.Fault.{Faults, IsAmong, past_limit, over}
+use Rattle.name_scopes.specs.Fault.{IsAmong, past_limit, over}
 use Rattle.name_scopes.specs.Locals.{is_constant}
-use Rattle.name_faults.specs.Items.{Names, no_names, enter, enter_all, enter_globals, enter_registers, enter_global, enter_register, program_faults}
+use Rattle.name_faults.specs.Items.{Names, no_names, enter, enter_all, enter_globals, enter_registers, enter_global, enter_register}
 use Rattle.typed_programs.specs.Items.{Resolves, program, all_of, functions_of, names_of_file}
 use Rattle.source_meaning.specs.declared.tree.Program.{Program}
-use Rattle.source_meaning.specs.declared.tree.Function.{Function}
 
 -- ---- each function is entered once
 

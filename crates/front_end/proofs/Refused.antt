@@ -1,8 +1,5 @@
 -- A source that is refused breaks that rule first, and one that isn't is accepted.
-use Rattle.std.proofs.Common.{◌≡◌, inl, inr, ◌∙◌, ap, sym, subst, refl, ℕ, ◌+◌, ◌^◌, ◌<◌, ◌≤◌, length, List, [], ◌∷◌, ◌++◌, Result, Ok, Err, Option, Some, None, arith}
-use Rattle.std.specs.Prelude.{slice_get}
-use Rattle.xmt_base.specs.declared.Place.{Place}
-use Rattle.xmt_lex.specs.declared.LexKind.{LexKind}
+use Rattle.std.proofs.Common.{◌≡◌, inl, inr, sym, subst, refl, ℕ, ◌^◌, ◌≤◌, length, List, Result, Ok, Err}
 use Rattle.xmt_lex.specs.declared.Token.{Token}
 use Rattle.xmt_lex.specs.declared.LexRefusal.{LexRefusal}
 use Rattle.xmt_lex.specs.declared.LexRefusal.TheVariants as lexing
@@ -18,13 +15,11 @@ use Rattle.typed_programs.specs.Items.{Resolves}
 use Rattle.source_meaning.specs.declared.tree.Program.{Program}
 use Rattle.spawn_check.specs.Table.{MeetsNone}
 use Rattle.spawn_check.specs.Words.{words_of}
-use Rattle.front_end.specs.declared.refusal.SourceKind.{SourceKind}
-use Rattle.front_end.specs.declared.refusal.SourceKind.TheVariants as rule
 use Rattle.front_end.specs.declared.refusal.SourceRefusal.{SourceRefusal}
 use Rattle.front_end.specs.declared.refusal.SourceRefusal.TheVariants.{Refused, NoMemory}
-use Rattle.front_end.specs.Kinds.{kind_of, of_tokens, of_parser, of_names}
-use Rattle.front_end.specs.Refused.{HasTokens, IsTree, HasNoTree, IsAccepted, IsRefusal, Breaks, tokens_are_broken, brackets_are_broken, grammar_is_broken, names_are_broken, blocks_are_broken, words_are_broken}
-use Rattle.front_end.specs.Reads.{Fronts, ReadsTokens, ReadsTree, ChecksProgram}
+use Rattle.front_end.specs.Kinds.{of_tokens, of_parser, of_names}
+use Rattle.front_end.specs.Refused.{HasTokens, IsTree, IsRefusal, tokens_are_broken, brackets_are_broken, grammar_is_broken, names_are_broken, blocks_are_broken, words_are_broken}
+use Rattle.front_end.specs.Reads.{Fronts, ChecksProgram}
 
 pub has_tokens : (source : List ℕ) (ts : List Token) → length source ≤ 2 ^ 20 → tokens source ≡ Ok ts → HasTokens source ts
 has_tokens source ts short are = record { short = short; are_tokens = are }

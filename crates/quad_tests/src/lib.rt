@@ -6,6 +6,8 @@
 #[cfg(test)]
 mod code_tests;
 #[cfg(test)]
+mod compile_tests;
+#[cfg(test)]
 mod home_tests;
 #[cfg(test)]
 mod layout_tests;

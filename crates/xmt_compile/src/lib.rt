@@ -15,6 +15,3 @@ mod law;
 pub use compiler::compile;
 pub use front_end::{SourceKind, SourceRefusal, Which, front};
 pub use law::traces_implement;
-
-#[cfg(test)]
-mod tests;

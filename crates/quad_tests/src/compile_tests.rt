@@ -1,6 +1,7 @@
-use super::*;
+//! Whole sources compiled: the sizes of their images.
 use std::test::Fail;
 use xmt_base::Place;
+use xmt_compile::{SourceKind, SourceRefusal, compile};
 
 // Sources, and how many instructions, words and names their images have, or none.
 #[test]
