@@ -1,5 +1,5 @@
 -- How a job has ended says nothing of what is complained of later.
-use Rattle.std.proofs.Common.{◌≡◌, sym, subst, ℕ, List, Option, inl, inr}
+use Rattle.std.proofs.Common.{◌≡◌, sym, subst, ℕ, Bool, List, Option, inl, inr}
 use Rattle.xmt_host.specs.Told.{FileMap}
 use Rattle.xmt_isa.specs.declared.image.Image.{Image}
 use Rattle.xmt_isa.specs.declared.run.Choice.{Choice}
@@ -16,13 +16,10 @@ use Rattle.xmt_jobs.specs.Sources.{HasCompiled, HasCompiledPart, HasRun, HasRunP
 use Rattle.xmt_jobs.specs.Images.{HasSimulated, HasSimulatedPart}
 use Rattle.xmt_jobs.specs.Ended.{HasEnded, IsCutCompiling, IsCutSimulating, IsCutRunning}
 
--- two moments that differ in the error stream and the faults alone
-module _ (before : Told) (files : Option FileMap) (out err err_later : Option (List ℕ)) (faults faults_later : ℕ) where
-  abbrev mid : Told
-  mid = told files out err faults
-
+-- a later moment that tells the same files and the same output
+module _ (before mid : Told) (err : Option (List ℕ)) (faults taken : ℕ) (steady : Bool) where
   abbrev now : Told
-  now = told files out err_later faults_later
+  now = record mid { err = err; faults = faults; taken = taken; steady = steady }
 
   silent : IsSilent before mid → IsSilent before now
   silent h = record { out = h.out; files = h.files }
@@ -117,5 +114,6 @@ module _ (before : Told) (files : Option FileMap) (out err err_later : Option (L
 -- a job has ended so also for a later moment that tells the same files and the same output
 pub ended_later : (task : Task) (o : Outcome) (before mid now : Told) → now.files ≡ mid.files → now.out ≡ mid.out → HasEnded task before mid o → HasEnded task before now o
 ended_later task o before mid now files out h =
-    subst (λ (f : Option FileMap). HasEnded task before (told f now.out now.err now.faults) o) (sym files)
-    (subst (λ (p : Option (List ℕ)). HasEnded task before (told mid.files p now.err now.faults) o) (sym out) (ended_same before mid.files mid.out mid.err now.err mid.faults now.faults task o h))
+    subst (λ (f : Option FileMap). HasEnded task before (record now { files = f }) o) (sym files)
+    (subst (λ (p : Option (List ℕ)). HasEnded task before (record now { files = mid.files; out = p }) o) (sym out)
+    (ended_same before mid now.err now.faults now.taken now.steady task o h))
