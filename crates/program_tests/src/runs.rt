@@ -5,7 +5,7 @@ use xmt_host::{HostCall, MemoryHost};
 use xmt_top::xmt;
 
 // An outcome as a text: code, output and error stream.
-fn outcome(alloc: Global, code: u8, out: &[u8], err: &[u8]) -> Result<String, AllocError> {
+fn outcome(alloc: Global, code: i64, out: &[u8], err: &[u8]) -> Result<String, AllocError> {
     let out = shown(alloc, out)?;
     let err = shown(alloc, err)?;
     format!(in alloc; "code {code}, out {out:?}, err {err:?}")
@@ -13,7 +13,7 @@ fn outcome(alloc: Global, code: u8, out: &[u8], err: &[u8]) -> Result<String, Al
 
 /// What a row wants.
 pub(crate) fn wanted(alloc: Global, row: &Row) -> Result<String, AllocError> {
-    let code = row.number("code").unwrap_or(0) as u8;
+    let code = row.number("code").unwrap_or(0);
     let out = row.text_or_empty("out").as_bytes();
     outcome(alloc, code, out, row.text_or_empty("err").as_bytes())
 }
@@ -31,7 +31,9 @@ fn split(alloc: Global, line: &str) -> Result<Vec<String>, AllocError> {
 fn host_of(alloc: Global, row: &Row) -> Result<MemoryHost, AllocError> {
     let mut failing = Vec::new(alloc);
     if let Some(number) = row.number("failing") {
-        failing.push((HostCall::Print, number as u64))?;
+        if let Ok(number) = u64::try_from(number) {
+            failing.push((HostCall::Print, number))?;
+        }
     }
     let mut host = MemoryHost::new(alloc, failing);
     let source = Vec::from_slice(alloc, row.text_or_empty("source").as_bytes())?;
@@ -44,5 +46,10 @@ pub(crate) fn outcome_of(alloc: Global, row: &Row, line: &str) -> Result<String,
     let mut host = host_of(alloc, row)?;
     let words = split(alloc, line)?;
     let status = xmt(alloc, words.as_slice(), &mut host);
-    outcome(alloc, status.code, host.out.as_slice(), host.err.as_slice())
+    outcome(
+        alloc,
+        i64::from(status.code),
+        host.out.as_slice(),
+        host.err.as_slice(),
+    )
 }
