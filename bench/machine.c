@@ -1,4 +1,4 @@
-/* The machine of docs/MACHINE.md in plain C, written from that page and docs/FORMATS.md alone, to be measured beside xmt sim.
+/* The machine of docs/MACHINE.md in plain C, which follows that page and docs/FORMATS.md, to be measured beside xmt sim.
 
    usage: machine FILE [UNITS [BUDGET [SEED]]]
 
