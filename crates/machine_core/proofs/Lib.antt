@@ -1,16 +1,1 @@
-pub mod Advance
-pub mod Asked
-pub mod Begins
-pub mod Blocks
-pub mod Choices
-pub mod Frees
-pub mod Idle
-pub mod Legality
-pub mod Moved
-pub mod On
-pub mod Printed
 pub mod Ran
-pub mod Seen
-pub mod Sole
-pub mod Texts
-pub mod Turned

@@ -1,5 +1,5 @@
--- How far a picked run has come, and how it ends.
-use Rattle.std.specs.Prelude.{◌≡◌, ◌≤◌, ℕ, List, take, drop, length, map}
+-- How a picked run ends.
+use Rattle.std.specs.Prelude.{◌≡◌, ℕ, List}
 use Rattle.std.specs.declared.option.Option.{Option}
 use Rattle.xmt_isa.specs.declared.image.Image.{Image}
 use Rattle.xmt_isa.specs.declared.run.Choice.{Choice}
@@ -9,25 +9,11 @@ use Rattle.run_options.specs.declared.options.SimEnd.TheVariants.{Done, Trap, Sp
 use Rattle.xmt_isa.specs.Machine as spec
 use Rattle.xmt_isa.specs.Legal.{RunsTo, HasHalted}
 use Rattle.xmt_isa.specs.Picked.{PickedRun, picked, choice_of}
-use Rattle.machine_core.specs.declared.machine.Machine.{Machine}
-use Rattle.machine_core.specs.Steps.{IsWithin, steps_left}
-use Rattle.machine_core.specs.Kept.{Kept}
-use Rattle.machine_core.specs.View.{seen_seat, machine_of, run_of}
-use Rattle.machine_core.specs.Prints.{Prints, PrintsPart}
-
--- after so many choices the picked run has come to this machine and generator, and what it printed went to the host
-pub record HasCome (image : Image) (budget : ℕ) (begin : PickedRun) (machine : Machine) (state : ℕ) (before now : Option (List ℕ)) : Type 0 where
-  pub choices : ℕ
-  pub out : List ℕ
-  pub same : picked image budget begin choices ≡ run_of machine out state
-  pub legal : RunsTo image begin.machine (machine_of machine out)
-  pub printed : Prints out before now
-
--- wherever the run comes to the old machine, it comes to the new one, with the same generator and nothing more printed
-pub record RunsOn (image : Image) (budget : ℕ) (old new : Machine) : Type 0 where
-  pub kept : Kept image budget new
-  pub come : (begin : PickedRun) (state : ℕ) (before now : Option (List ℕ)) → HasCome image budget begin old state before now → HasCome image budget begin new state before now
-  pub left : steps_left budget (map (seen_seat new.spawned) new.seats.items) ≤ steps_left budget (map (seen_seat old.spawned) old.seats.items)
+use Rattle.machine_turns.specs.declared.machine.Machine.{Machine}
+use Rattle.machine_turns.specs.Steps.{IsWithin}
+use Rattle.machine_turns.specs.View.{machine_of}
+use Rattle.machine_turns.specs.Prints.{Prints, PrintsPart}
+use Rattle.machine_turns.specs.Runs.{data_words}
 
 -- the picked run has ended so, with this machine, and what it printed went to the host
 pub record HasEnded (image : Image) (budget : ℕ) (begin : PickedRun) (end : Choice) (machine : Machine) (before now : Option (List ℕ)) : Type 0 where
@@ -44,10 +30,6 @@ pub record PrintsPicked (image : Image) (budget : ℕ) (begin : PickedRun) (befo
   pub choices : ℕ
   pub legal : RunsTo image begin.machine (picked image budget begin choices).machine
   pub printed : PrintsPart (picked image budget begin choices).machine.out before now
-
--- the data words of a table of words
-abbrev pub data_words : Image → List ℕ → List ℕ
-data_words image words = take (length image.words) (drop 12 words)
 
 -- after so many choices the picked run ends so with this machine, to which a legal schedule leads, with no unit past the
 -- budget, and what it printed went to the host

@@ -2,41 +2,15 @@
 ghost use Rattle.std.specs.Prelude.{◌≡◌, ℕ, ◌^◌, ◌<◌, ◌≤◌, length, map, find, vec_len, slice_get, true, Some, IsSomeAnd};
 ghost use Rattle.std.specs.Option.{option_copied};
 ghost use Rattle.xmt_isa.specs.Picked.{is_live, is_active, place_of, picks, state_after};
-ghost use Rattle.machine_core.specs.Seats.{unit_of};
-ghost use Rattle.machine_core.specs.Sole.{OnlyActive, sole_place, sole_choice};
-ghost use Rattle.machine_core.specs.Kept.{IsAt};
-ghost use Rattle.machine_core.specs.Goes.{asks_trap, asks_spent, seat_trapped, seat_spent, trap_choice, count_active, seats_choice, SeatGoesOn};
+ghost use Rattle.machine_turns.specs.Seats.{unit_of};
+ghost use Rattle.machine_turns.specs.Sole.{OnlyActive, sole_place, sole_choice};
+ghost use Rattle.machine_turns.specs.Kept.{IsAt};
+ghost use Rattle.machine_turns.specs.Goes.{asks_trap, asks_spent, seat_trapped, seat_spent, trap_choice, count_active, seats_choice, SeatGoesOn};
 
-use crate::machine::Machine;
-use crate::seats::Seat;
+use machine_turns::{Machine, Seat, is_active, sole_choice, sole_place};
 use tcu_engine::Ask;
 use xmt_base::Picker;
-use xmt_isa::{Choice, Unit, UnitState};
-
-// The places of the master and of the first control unit.
-const MASTER: usize = 0;
-
-const FIRST_UNIT: usize = 1;
-
-// How many units there are where there is one control unit.
-const ONE_UNIT: usize = 2;
-
-// It has neither stopped nor halted.
-fn is_live(state: UnitState) -> bool
-    ensures { result ≡ is_live state }
-{
-    match state {
-        UnitState::Draws | UnitState::Runs => true,
-        UnitState::Stopped | UnitState::Halted => false,
-    }
-}
-
-// A unit has a turn.
-fn is_active(spawned: bool, unit: &Unit) -> bool
-    ensures { result ≡ is_active spawned unit.now }
-{
-    is_live(unit.state) && (if unit.number == 0 { !spawned } else { spawned })
-}
+use xmt_isa::Choice;
 
 // The unit stands at a trap.
 fn asks_trap(ask: Ask) -> bool
@@ -137,23 +111,6 @@ fn pick(spawned: bool, seats: &[Seat], picker: &mut Picker) -> Choice
     Choice::Step(place_of(spawned, seats, i))
 }
 
-// How the run goes on where no unit but the one in this place is active.
-fn sole_choice(spawned: bool, seat: &Seat, k: usize) -> Choice
-    ensures { result ≡ sole_choice spawned k seat.now }
-{
-    if !is_active(spawned, &seat.unit) {
-        return Choice::Done;
-    }
-    match seat.ask {
-        Ask::Trap(trap) => Choice::Trap(trap),
-        Ask::Spent => Choice::Spent {
-            unit: seat.unit.number,
-            steps: seat.unit.counts.steps,
-        },
-        _ => Choice::Step(k),
-    }
-}
-
 // How the run goes on: it ends at the least unit at a trap, else at the least one that has spent the budget, else where
 // no unit is active, else one of the active units has a turn.
 fn choose_among(machine: &Machine, picker: &mut Picker) -> Choice
@@ -176,19 +133,6 @@ fn choose_among(machine: &Machine, picker: &mut Picker) -> Choice
     }
 }
 
-/// The place of the unit that alone may be active.
-pub(crate) fn sole_place(machine: &Machine) -> Option<usize>
-    ensures { result ≡ sole_place machine.now.spawned machine.now.seats.items }
-{
-    if !machine.spawned {
-        Some(MASTER)
-    } else if machine.seats.len() == ONE_UNIT {
-        Some(FIRST_UNIT)
-    } else {
-        None
-    }
-}
-
 /// How the run goes on: it ends at the least unit at a trap, else at the least one that has spent the budget, else where
 /// no unit is active, else one of the active units has a turn.
 pub(crate) fn choose(machine: &Machine, picker: &mut Picker) -> Choice
@@ -204,11 +148,3 @@ pub(crate) fn choose(machine: &Machine, picker: &mut Picker) -> Choice
     }
 }
 
-/// The unit in this place has a turn, and its next instruction touches it alone.
-pub(crate) fn pauses(machine: &Machine, k: usize) -> bool
-    requires inside { k < vec_len machine.now.seats }
-    ensures { result ≡ true → IsAt machine.now k Ask.Pause }
-{
-    let seat = &machine.seats[k];
-    is_active(machine.spawned, &seat.unit) && matches!(&seat.ask, Ask::Pause)
-}

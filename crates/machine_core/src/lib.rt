@@ -5,14 +5,7 @@
 //! steady host, unless the count stands at its end.
 #![tactic(auto)]
 
-mod cells;
 mod choose;
-mod machine;
-mod opening;
-mod print;
 mod run;
-mod seats;
-mod sections;
-mod turn;
 
 pub use run::run_picked;

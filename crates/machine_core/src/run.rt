@@ -4,41 +4,19 @@ ghost use Rattle.xmt_host.specs.Told.{OnlyPrints};
 ghost use Rattle.xmt_host.specs.Host.{HasCause, Rose};
 ghost use Rattle.xmt_isa.specs.Opening.{begins};
 ghost use Rattle.xmt_isa.specs.Legal.{HasHalted};
-ghost use Rattle.machine_core.specs.Kept.{Kept};
-ghost use Rattle.machine_core.specs.View.{machine_of, run_of};
-ghost use Rattle.machine_core.specs.Runs.{RunsOn, HasEnded, PrintsPicked, Ends, data_words};
+ghost use Rattle.machine_turns.specs.Kept.{Kept};
+ghost use Rattle.machine_turns.specs.View.{machine_of, run_of};
+ghost use Rattle.machine_turns.specs.Runs.{RunsOn, data_words};
+ghost use Rattle.machine_core.specs.Runs.{HasEnded, PrintsPicked, Ends};
 
-use crate::cells::{behind, front};
-use crate::choose::{choose, pauses, sole_place};
-use crate::machine::{Machine, run_more_alone};
-use crate::opening::opening;
-use crate::turn::take_turn;
+use crate::choose::choose;
 use image_loader::Loaded;
+use machine_turns::{Machine, data_words, opening, run_on, take_turn};
 use run_options::{SimEnd, SimOptions};
-use sqlite_items::Items;
-use std::alloc::{AllocError, Global};
+use std::alloc::Global;
 use xmt_base::{Memory, Picker};
 use xmt_host::{Host, HostFault};
-use xmt_isa::{Choice, Image};
-
-// How many instructions a unit that alone is active runs at a time, at most.
-const MANY: u32 = 1048576;
-
-// Runs the unit that alone may be active, if its next instruction touches it alone.
-fn run_on(image: &Loaded, budget: u64, machine: &mut Machine)
-    requires kept { Kept image.now budget machine.old }
-    ensures on { RunsOn image.now budget machine.old machine.new }
-    ensures len { vec_len machine.new.seats ≡ vec_len machine.old.seats }
-{
-    match sole_place(machine) {
-        None => {}
-        Some(k) => {
-            if pauses(machine, k) {
-                run_more_alone(image, budget, machine, k, MANY);
-            }
-        }
-    }
-}
+use xmt_isa::Choice;
 
 /// Runs the machine until an end is chosen.
 fn run_to_end<H: Host>(
@@ -70,13 +48,6 @@ fn run_to_end<H: Host>(
             Choice::Spent { unit, steps } => return Ok(Choice::Spent { unit, steps }),
         }
     }
-}
-
-// The data words of a table of words.
-fn data_words(alloc: Global, image: &Image, words: &Vec<u32>) -> Result<Items<u32>, AllocError>
-    ensures { IfOk result (λ values. values ≡ data_words image.now words.now.items) }
-{
-    Items::from_slice(alloc, front(behind(words, 12), image.words.len()))
 }
 
 /// The machine under the schedule of a generator that begins with `seed`.

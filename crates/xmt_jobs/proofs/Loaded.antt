@@ -7,7 +7,8 @@ use Rattle.xmt_isa.specs.declared.run.Choice.TheVariants as choice
 use Rattle.run_options.specs.declared.options.SimOptions.{SimOptions}
 use Rattle.xmt_isa.specs.Machine.{Machine}
 use Rattle.xmt_isa.specs.Legal.{HasHalted}
-use Rattle.machine_core.specs.Runs.{EndsAs, PrintsPicked, data_words}
+use Rattle.machine_core.specs.Runs.{EndsAs, PrintsPicked}
+use Rattle.machine_turns.specs.Runs.{data_words}
 use Rattle.memory_map.specs.DumpText.{dump_text}
 use Rattle.xmtsim_run.specs.Runs.{picked_run}
 use Rattle.xmt_cli.specs.Given.{Text}

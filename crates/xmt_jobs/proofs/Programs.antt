@@ -12,7 +12,8 @@ use Rattle.xmt_isa.specs.Machine.{Machine}
 use Rattle.xmt_isa.specs.Opening.{opening}
 use Rattle.xmt_isa.specs.Legal as machine
 use Rattle.xmt_isa.specs.Picked.{PickedRun, picked}
-use Rattle.machine_core.specs.Runs.{PrintsPicked, data_words}
+use Rattle.machine_core.specs.Runs.{PrintsPicked}
+use Rattle.machine_turns.specs.Runs.{data_words}
 use Rattle.xmtsim_run.specs.Runs.{picked_run}
 use Rattle.xmt_compile.specs.Ended.{HasDone}
 use Rattle.xmt_cli.specs.Given.{Text}

@@ -15,7 +15,7 @@ use Rattle.xmt_isa.specs.Machine.{Machine, serves, moves, turn_of, turn, after}
 use Rattle.xmt_isa.specs.Opening.{opening, opening_words, zeros_of}
 use Rattle.xmt_isa.specs.Step.{next_of}
 use Rattle.xmt_isa.specs.Legal.{RunsTo}
-use Rattle.machine_core.specs.Runs.{data_words}
+use Rattle.machine_turns.specs.Runs.{data_words}
 use Rattle.memory_map.specs.declared.read.MapRefusal.{MapRefusal}
 use Rattle.memory_map.specs.declared.read.Reading.{Reading}
 use Rattle.memory_map.specs.MapText.{MapText, index_of, opening_of, put_values, read_values, read_symbol, read_named, read_line, read_lines, read_text, and_then}

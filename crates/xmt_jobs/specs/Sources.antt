@@ -18,7 +18,7 @@ use Rattle.run_options.specs.declared.options.SimOptions.{SimOptions}
 use Rattle.xmt_isa.specs.Machine.{Machine}
 use Rattle.xmt_isa.specs.Picked.{picked}
 use Rattle.image_loader.specs.Layout.{Bytes}
-use Rattle.machine_core.specs.Runs.{data_words}
+use Rattle.machine_turns.specs.Runs.{data_words}
 use Rattle.xmtsim_run.specs.Runs.{picked_run}
 use Rattle.xmt_compile.specs.Implements.{Implements}
 use Rattle.xmt_compile.specs.Ended.{HasDone, HasPrinted}

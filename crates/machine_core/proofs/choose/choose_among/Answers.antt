@@ -1,6 +1,6 @@
 use Rattle.std.proofs.Common.{◌∙◌, ap, sym, option_copied, slice_get}
-use Rattle.machine_core.proofs.Choices.{find_none}
-use Rattle.machine_core.proofs.Seen.{some_more}
+use Rattle.machine_turns.proofs.Choices.{find_none}
+use Rattle.machine_turns.proofs.Seen.{some_more}
 use Rattle.machine_core.proofs.choose.choose_among.Goals as goal
 
 pub returns-in-None-find_spent-clause-turn : goal.returns-in-None-find_spent-clause-turn
