@@ -5,20 +5,21 @@
 //! fault or want of memory a prefix of what the turn prints was given to the host.
 #![tactic(auto)]
 
+mod beginning;
 mod cells;
 mod data;
 mod machine;
-mod opening;
+
 mod print;
 mod seats;
 mod sections;
-mod sole;
+mod only_unit;
 mod turn;
 
 pub use data::data_words;
 pub use machine::Machine;
-pub use opening::opening;
+pub use beginning::opening;
 pub use seats::{Seat, reply_in};
 pub use sections::broadcast;
-pub use sole::{is_active, run_on, sole_choice, sole_place};
+pub use only_unit::{is_active, run_on, sole_choice, sole_place};
 pub use turn::take_turn;

@@ -1,7 +1,7 @@
 use Rattle.std.proofs.Common.{◌≡◌, ◌+◌, ◌∷◌, map, vec_len}
 use Rattle.xmt_isa.specs.Opening.{control_units}
 use Rattle.machine_turns.specs.Seats.{seat_of}
-use Rattle.machine_turns.proofs.opening.new_seats.Given as goal
+use Rattle.machine_turns.proofs.beginning.new_seats.Given as goal
 
 abbrev pub invariant-loop-i : goal.invariant-loop-i
 invariant-loop-i l = record {

@@ -1,6 +1,6 @@
 use Rattle.std.proofs.Common.{refl, false}
 use Rattle.machine_turns.proofs.Begins.{opening_same, opening_kept}
-use Rattle.machine_turns.proofs.opening.opening.Goals as goal
+use Rattle.machine_turns.proofs.beginning.opening.Goals as goal
 
 pub returns-clause-machine : goal.returns-clause-machine
 returns-clause-machine c =

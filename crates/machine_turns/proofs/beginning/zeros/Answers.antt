@@ -1,6 +1,6 @@
 use Rattle.std.proofs.Common.{rules}
 use Rattle.xmt_isa.specs.Opening.{zeros_of}
-use Rattle.machine_turns.proofs.opening.zeros.Goals as goal
+use Rattle.machine_turns.proofs.beginning.zeros.Goals as goal
 
 pub returns : goal.returns
 unfolding zeros_of
