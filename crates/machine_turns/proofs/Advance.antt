@@ -1,33 +1,31 @@
 -- Turns that add one step.
-use Rattle.std.proofs.Common.{◌≡◌, ◌≢◌, ℕ, zero, suc, ◌∷◌, [], inl, inr, ◌^◌, length, sym, subst, ◌+◌, ◌-◌, ◌<◌, ◌≤◌, Bool, true, false, if◌then◌else◌, List, Some, None, Option, map, sum_by, get_or, slice_get, slice_set, All, ap, refl, ◌∙◌, arith}
+use Rattle.std.proofs.Common.{◌≡◌, ℕ, ◌∷◌, [], ◌^◌, length, sym, subst, ◌+◌, ◌-◌, ◌<◌, ◌≤◌, Bool, true, false, if◌then◌else◌, List, Some, map, sum_by, get_or, slice_get, slice_set, All, ap, refl, ◌∙◌, arith}
 use Rattle.std.specs.List.{list_all}
-use Rattle.std.proofs.lemmas.Option.{get_or_from_slice_get, slice_get_cases, slice_get-map}
-use Rattle.std.proofs.lemmas.List.Elements.{All-set, All-get_or, All-nil, All-cons, All-push}
-use Rattle.std.proofs.lemmas.List.{map-append, map-set}
+use Rattle.std.proofs.lemmas.Option.{get_or_from_slice_get, slice_get-map}
+use Rattle.std.proofs.lemmas.List.Elements.{All-nil, All-cons}
+use Rattle.std.proofs.lemmas.List.{map-set}
 use Rattle.std.proofs.lemmas.List.Sums.{sum_by-set}
 use Rattle.std.specs.Option.{IsSomeAnd}
 use Rattle.xmt_isa.specs.declared.image.Image.{Image}
 use Rattle.xmt_isa.specs.declared.unit.Start.{Start}
 use Rattle.xmt_isa.specs.declared.unit.Unit.{Unit}
-use Rattle.xmt_isa.specs.declared.unit.SpawnAsk.{SpawnAsk}
 use Rattle.xmt_isa.specs.declared.unit.Request.{Request}
 use Rattle.xmt_isa.specs.declared.unit.Request.TheVariants as request
 use Rattle.xmt_isa.specs.declared.unit.Next.{Next}
 use Rattle.xmt_isa.specs.declared.unit.Next.TheVariants.{Local, Trap, Ask}
-use Rattle.xmt_isa.specs.Picked.{is_trap, is_spawned, is_active}
-use Rattle.xmt_isa.specs.Step.{more, next_of, answer_of, local_of}
-use Rattle.xmt_isa.specs.Machine.{Machine, turn, moves, serves, joins, resumes, ready, spawns, waits_for, is_stopped}
+use Rattle.xmt_isa.specs.Picked.{is_trap, is_active}
+use Rattle.xmt_isa.specs.Step.{more, next_of, answer_of}
+use Rattle.xmt_isa.specs.Machine.{Machine, turn, moves, serves, joins, resumes, ready, waits_for, is_stopped}
 use Rattle.unit_steps.specs.Steps.{DoesNext}
 use Rattle.tcu_engine.specs.declared.ask.Ask as engine
-use Rattle.tcu_engine.specs.declared.ask.Ask.TheVariants as ask
 use Rattle.machine_turns.specs.declared.seats.Seat.{Seat}
 use Rattle.machine_turns.specs.declared.machine.Machine as kept
 use Rattle.machine_turns.specs.Seats.{free, Means}
 use Rattle.machine_turns.specs.Steps.{steps_of, Advances, IsWithin, steps_left}
 use Rattle.machine_turns.specs.Kept.{IsIdle, IsRunning, KeptBy, Kept, MayGo}
 use Rattle.machine_turns.specs.View.{seen, seen_seat, machine_of}
-use Rattle.machine_turns.specs.Goes.{seat_trapped, seat_spent, asks_trap, asks_spent, SeatGoesOn}
-use Rattle.machine_turns.proofs.Frees.{next_free, IsAnswered, local_stepped, answer_stepped}
+use Rattle.machine_turns.specs.Goes.{SeatGoesOn}
+use Rattle.machine_turns.proofs.Frees.{next_free, local_stepped, answer_stepped}
 use Rattle.machine_turns.proofs.Seen.{some_of, some_inside, all_at, frees, may_go, active_live, seen_active, seen_master, seen_running}
 use Rattle.machine_turns.proofs.Idle.{all_head, all_tail}
 use Rattle.machine_turns.proofs.Moved.{turn_at}

@@ -1,26 +1,23 @@
 -- What a unit does next, as the engine answers it.
-use Rattle.std.proofs.Common.{◌≡◌, refl, sym, ap, ◌∙◌, inl, inr, ◌⊎◌, ℕ, zero, suc, ◌+◌, ◌<◌, ◌≤◌, ◌^◌, ◌%◌, ◌==◌, ◌&&◌, Bool, true, false, subst, arith}
+use Rattle.std.proofs.Common.{◌≡◌, refl, sym, ap, ◌∙◌, inl, inr, ◌⊎◌, ℕ, zero, suc, ◌<◌, ◌≤◌, ◌^◌, ◌%◌, ◌==◌, ◌&&◌, Bool, true, false, arith}
 use Rattle.xmt_base.specs.declared.values.Trap as trap
 use Rattle.xmt_isa.specs.declared.image.Image.{Image}
 use Rattle.xmt_isa.specs.declared.unit.Unit.{Unit}
 use Rattle.xmt_isa.specs.declared.unit.UnitState.TheVariants as state
 use Rattle.xmt_isa.specs.declared.unit.Start.{Start}
-use Rattle.xmt_isa.specs.declared.unit.SpawnAsk.{SpawnAsk}
 use Rattle.xmt_isa.specs.declared.unit.Request.{Request}
 use Rattle.xmt_isa.specs.declared.unit.Request.TheVariants as request
 use Rattle.xmt_isa.specs.declared.unit.Next.{Next}
 use Rattle.xmt_isa.specs.declared.unit.Next.TheVariants as next
-use Rattle.xmt_isa.specs.Step.{more, is_due, next_of, local_of, answer_of}
-use Rattle.xmt_isa.specs.Fits.{UnitFits}
-use Rattle.xmt_isa.specs.Machine.{is_stopped}
+use Rattle.xmt_isa.specs.Step.{more, is_due, next_of, local_of}
 use Rattle.xmt_isa.specs.Picked.{is_live}
 use Rattle.unit_steps.specs.Steps.{is_new_master, begun, DoesNext, HasSpent, StandsAtTrap, RunsAlone, answered}
 use Rattle.tcu_engine.specs.Asks.{ask_of, is_request}
 use Rattle.tcu_engine.specs.declared.ask.Ask.{Ask}
 use Rattle.tcu_engine.specs.declared.ask.Ask.TheVariants.{Load, Store, Add, Draw, Print, Spawn, Pause, Stopped, Halt, Trap, Spent}
-use Rattle.machine_turns.specs.Seats.{free, Means, Tells, Holds}
+use Rattle.machine_turns.specs.Seats.{free, Means}
 use Rattle.machine_turns.specs.Steps.{steps_of}
-use Rattle.machine_turns.proofs.Frees.{next_free, Stepped, IsAnswered, not_due, local_stepped, draws_steps, answer_stepped}
+use Rattle.machine_turns.proofs.Frees.{next_free, Stepped, not_due, draws_steps, answer_stepped}
 
 -- the meaning of an answer, by when each answer comes
 pub means_of : (image : Image) (start : Start) (budget : ℕ) (u : Unit) (ask : Ask)

@@ -1,5 +1,5 @@
 -- The machine at the beginning of a run.
-use Rattle.std.proofs.Common.{◌≡◌, ◌≢◌, refl, sym, ap, ◌∙◌, ℕ, zero, suc, ◌+◌, ◌<◌, ◌≤◌, false, List, [], ◌∷◌, ◌++◌, length, map, All, inl, arith}
+use Rattle.std.proofs.Common.{◌≡◌, refl, ap, ◌∙◌, ℕ, zero, suc, ◌+◌, ◌≤◌, false, List, [], ◌∷◌, ◌++◌, length, map, All, inl, arith}
 use Rattle.std.proofs.lemmas.List.{map-append, length-map, length-append}
 use Rattle.std.proofs.lemmas.List.Elements.{All-nil, All-push}
 use Rattle.xmt_isa.specs.declared.image.Image.{Image}
@@ -7,7 +7,6 @@ use Rattle.xmt_isa.specs.declared.unit.Start.{Start}
 use Rattle.xmt_isa.specs.declared.unit.Unit.{Unit}
 use Rattle.xmt_isa.specs.Opening.{zeros_of, new_unit, new_master, control_units, opening_words, opening, no_start}
 use Rattle.xmt_isa.specs.Fits.{UnitFits}
-use Rattle.xmt_isa.specs.Machine.{Machine}
 use Rattle.xmt_isa.specs.Valid.{IsValid}
 use Rattle.xmt_isa.proofs.New.{made_fits}
 use Rattle.machine_turns.specs.declared.seats.Seat.{Seat}

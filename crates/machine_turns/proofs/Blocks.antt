@@ -1,21 +1,20 @@
 -- Draws and spawns of the kept machine.
-use Rattle.std.proofs.Common.{◌≡◌, ◌≢◌, refl, sym, ap, ◌∙◌, subst, ℕ, zero, suc, ◌+◌, ◌<◌, ◌≤◌, Bool, true, false, ◌&&◌, if◌then◌else◌, List, [], ◌∷◌, length, map, All, Some, slice_get, slice_set, arith}
+use Rattle.std.proofs.Common.{◌≡◌, ◌≢◌, refl, sym, ap, ◌∙◌, subst, ℕ, zero, suc, ◌+◌, ◌≤◌, Bool, true, false, if◌then◌else◌, List, [], ◌∷◌, length, map, All, Some, slice_get, slice_set, arith}
 use Rattle.std.specs.List.{list_all}
 use Rattle.std.proofs.lemmas.List.{map-set, length-set, length-map}
 use Rattle.std.proofs.lemmas.List.Elements.{All-set}
-use Rattle.std.specs.Option.{IsSomeAnd, IfSome}
+use Rattle.std.specs.Option.{IfSome}
 use Rattle.xmt_isa.specs.declared.image.Image.{Image}
 use Rattle.xmt_isa.specs.declared.unit.Unit.{Unit}
 use Rattle.xmt_isa.specs.declared.unit.Start.{Start}
 use Rattle.xmt_isa.specs.declared.unit.SpawnAsk.{SpawnAsk}
 use Rattle.xmt_isa.specs.declared.unit.Request.TheVariants as request
-use Rattle.xmt_isa.specs.declared.unit.Next.{Next}
 use Rattle.xmt_isa.specs.declared.unit.Next.TheVariants.{Ask}
 use Rattle.xmt_isa.specs.Step.{more, next_of, answer_of, draws}
-use Rattle.xmt_isa.specs.Machine.{Machine, turn, joins, resumes, ready, spawns, waits_for, broadcast, is_stopped, behind_join}
+use Rattle.xmt_isa.specs.Machine.{Machine, turn, joins, resumes, ready, spawns, waits_for, broadcast, is_stopped}
 use Rattle.xmt_isa.specs.Picked.{is_active}
 use Rattle.xmt_isa.specs.Regions.{IsSpawn}
-use Rattle.xmt_isa.specs.Fits.{UnitFits, StartFits}
+use Rattle.xmt_isa.specs.Fits.{StartFits}
 use Rattle.xmt_isa.proofs.Broadcast.{broadcast_fits}
 use Rattle.xmt_isa.specs.Valid.{IsValid}
 use Rattle.unit_steps.specs.Steps.{DoesNext, answered, behind_spawn}
@@ -25,12 +24,12 @@ use Rattle.tcu_engine.specs.declared.ask.Ask.TheVariants as ask
 use Rattle.machine_turns.specs.declared.seats.Seat.{Seat}
 use Rattle.machine_turns.specs.declared.machine.Machine as kept
 use Rattle.machine_turns.specs.Seats.{free, has_stopped, Means, Tells, Holds, Replaced}
-use Rattle.machine_turns.specs.Kept.{IsIdle, IsRunning, AreReadied, BehindMaster, Serial, Parallel, KeptBy, Kept, MayGo, IsAt}
+use Rattle.machine_turns.specs.Kept.{IsIdle, IsRunning, BehindMaster, Serial, Parallel, KeptBy, Kept, MayGo, IsAt}
 use Rattle.machine_turns.specs.View.{seen, seen_seat, machine_of}
 use Rattle.machine_turns.specs.Goes.{Goes}
 use Rattle.unit_steps.proofs.Keeps.{keeps_fit}
 use Rattle.machine_turns.proofs.Frees.{free_same, next_free, answer_free, draw_answer, draws_steps}
-use Rattle.machine_turns.proofs.Seen.{at_some, if_some, all_at, some_inside, active_live, active_serial, active_parallel, seen_active, seen_master, seen_running, frees, stopped_seen}
+use Rattle.machine_turns.proofs.Seen.{at_some, all_at, active_serial, active_parallel, seen_master, seen_running, frees, stopped_seen}
 use Rattle.machine_turns.proofs.Idle.{all_head, all_tail, all_idle}
 use Rattle.machine_turns.proofs.Moved.{turn_at, same_machine, Turning, turning}
 

@@ -1,13 +1,10 @@
 -- How a picked run goes on, by what the kept units do next.
-use Rattle.std.proofs.Common.{◌≡◌, ◌≢◌, refl, sym, ap, ◌∙◌, subst, ℕ, zero, suc, ◌+◌, ◌-◌, ◌<◌, ◌≤◌, ◌==◌, ◌&&◌, not, nat_eq, nat_lt, Bool, true, false, cond, if◌then◌else◌, List, [], ◌∷◌, length, map, All, Option, Some, None, find, slice_get, arith, inl, inr, ◌⊎◌}
-use Rattle.std.specs.List.{list_all, count_by, sum_by}
-use Rattle.std.specs.Option.{IsSomeAnd, option_map, option_copied}
+use Rattle.std.proofs.Common.{◌≡◌, ◌≢◌, refl, sym, ap, ◌∙◌, ℕ, zero, suc, ◌+◌, ◌-◌, ◌<◌, ◌==◌, ◌&&◌, nat_lt, Bool, true, false, cond, if◌then◌else◌, List, [], ◌∷◌, map, Option, Some, None, find, slice_get, arith}
+use Rattle.std.specs.List.{list_all, count_by}
+use Rattle.std.specs.Option.{IsSomeAnd, option_map}
 use Rattle.std.proofs.lemmas.Bool.Decides.{nat_tests}
 use Rattle.std.proofs.lemmas.List.Sums.{sum_by-cons}
-use Rattle.std.proofs.lemmas.Option.{slice_get-map}
-use Rattle.xmt_base.specs.declared.values.Trap as trap
 use Rattle.xmt_isa.specs.declared.image.Image.{Image}
-use Rattle.xmt_isa.specs.declared.run.Choice.{Choice}
 use Rattle.xmt_isa.specs.declared.run.Choice.TheVariants as choice
 use Rattle.xmt_isa.specs.declared.unit.Unit.{Unit}
 use Rattle.xmt_isa.specs.declared.unit.UnitState.{UnitState}
@@ -17,20 +14,20 @@ use Rattle.xmt_isa.specs.declared.unit.Next.{Next}
 use Rattle.xmt_isa.specs.declared.unit.Next.TheVariants as next
 use Rattle.xmt_base.specs.Picker.{choice as pick_of, next_state}
 use Rattle.xmt_isa.specs.Step.{next_of}
-use Rattle.xmt_isa.specs.Machine.{Machine, is_stopped, waits_for}
+use Rattle.xmt_isa.specs.Machine.{is_stopped, waits_for}
 use Rattle.xmt_isa.specs.Legal.{HasHalted}
-use Rattle.xmt_isa.specs.Picked.{PickedRun, is_live, is_spawned, is_active, is_trap, is_trapped, is_spent, trap_of, place_of, picks, choice_by, choice_of}
-use Rattle.unit_steps.specs.Steps.{DoesNext, HasSpent, StandsAtTrap}
+use Rattle.xmt_isa.specs.Picked.{is_live, is_spawned, is_active, is_trap, is_trapped, is_spent, trap_of, place_of, picks, choice_by, choice_of}
+use Rattle.unit_steps.specs.Steps.{DoesNext}
 use Rattle.tcu_engine.specs.declared.ask.Ask.{Ask}
 use Rattle.tcu_engine.specs.declared.ask.Ask.TheVariants.{Load, Store, Add, Draw, Print, Spawn, Pause, Stopped, Halt, Trap, Spent}
 use Rattle.machine_turns.specs.declared.seats.Seat.{Seat}
 use Rattle.machine_turns.specs.declared.machine.Machine as kept
-use Rattle.machine_turns.specs.Seats.{unit_of, free, has_stopped, Means, Tells}
-use Rattle.machine_turns.specs.Kept.{IsIdle, IsRunning, Serial, Parallel, KeptBy, Kept, MayGo}
+use Rattle.machine_turns.specs.Seats.{unit_of, free, has_stopped, Means}
+use Rattle.machine_turns.specs.Kept.{IsRunning, KeptBy, Kept}
 use Rattle.machine_turns.specs.View.{seen, seen_seat, machine_of, run_of}
-use Rattle.machine_turns.specs.Goes.{asks_trap, asks_spent, seat_active, seat_trapped, seat_spent, trap_choice, count_active, choice_among, seats_choice, SeatGoesOn}
+use Rattle.machine_turns.specs.Goes.{asks_trap, asks_spent, seat_active, seat_trapped, seat_spent, trap_choice, count_active, choice_among, seats_choice}
 use Rattle.machine_turns.proofs.Frees.{next_free}
-use Rattle.machine_turns.proofs.Seen.{some_of, all_at, active_live, may_go, seen_active, seen_master}
+use Rattle.machine_turns.proofs.Seen.{all_at, active_live, may_go, seen_active, seen_master}
 
 -- ---- finding
 

@@ -1,16 +1,16 @@
 -- Units without their waiting do the same.
-use Rattle.std.proofs.Common.{◌≡◌, ◌≢◌, refl, sym, ap, ◌∙◌, ℕ, ◌+◌, ◌<◌, ◌≤◌, ◌^◌, ◌%◌, ◌==◌, ◌&&◌, nat_lt, Bool, true, false, if◌then◌else◌, Option, Some, None, length, slice_index, subst, arith}
+use Rattle.std.proofs.Common.{◌≡◌, refl, sym, ap, ℕ, ◌==◌, nat_lt, Bool, true, false, if◌then◌else◌, Option, Some, None, subst}
 use Rattle.std.specs.Prelude.{⊤}
 use Rattle.xmt_base.specs.declared.values.TrapKind.{TrapKind}
 use Rattle.xmt_base.specs.declared.values.TrapKind.TheVariants.{Index, PsIncrement, CallDepth}
 use Rattle.xmt_isa.specs.declared.image.Image.{Image}
 use Rattle.xmt_isa.specs.declared.operation.Operation.{Operation}
-use Rattle.xmt_isa.specs.declared.operation.Operation.TheVariants.{Set, Unary, Binary, Jump, IfZero, IfNot, Call, Return, ReadSlot, WriteSlot, WriteArgument, ReadArgument, ReadMaster, Check, Load, Store, Add, Print, Spawn, Join}
+use Rattle.xmt_isa.specs.declared.operation.Operation.TheVariants.{Binary, Call, Return, Check, Load, Store, Add, Print, Spawn, Join}
 use Rattle.xmt_isa.specs.declared.operation.Location.{Location}
 use Rattle.xmt_isa.specs.declared.operation.Location.TheVariants.{Word, Indexed, Outer, Register}
 use Rattle.xmt_isa.specs.declared.unit.Unit.{Unit}
 use Rattle.xmt_isa.specs.declared.unit.UnitState.{UnitState}
-use Rattle.xmt_isa.specs.declared.unit.UnitState.TheVariants.{Draws, Runs, Stopped, Halted}
+use Rattle.xmt_isa.specs.declared.unit.UnitState.TheVariants.{Draws}
 use Rattle.xmt_isa.specs.declared.unit.Start.{Start}
 use Rattle.xmt_isa.specs.declared.unit.SpawnAsk.{SpawnAsk}
 use Rattle.xmt_isa.specs.declared.unit.Request.{Request}
@@ -18,9 +18,8 @@ use Rattle.xmt_isa.specs.declared.unit.Request.TheVariants as request
 use Rattle.xmt_isa.specs.declared.unit.Next.{Next}
 use Rattle.xmt_isa.specs.declared.unit.Next.TheVariants.{Local, Trap, Ask}
 use Rattle.xmt_isa.specs.Image.{operation_at}
-use Rattle.xmt_isa.specs.Step.{more, is_due, next_of, next_here, next_at, reg, word_of, local_of, local_here, local_at, answer_of, answer_here, answer_at, draws, returns, access, adds, divides}
+use Rattle.xmt_isa.specs.Step.{more, is_due, next_of, next_here, reg, word_of, local_of, local_here, answer_of, answer_here, draws, returns, access, adds, divides}
 use Rattle.xmt_isa.specs.Machine.{ready, is_stopped}
-use Rattle.xmt_isa.specs.Picked.{is_live}
 use Rattle.machine_turns.specs.Seats.{free}
 use Rattle.machine_turns.specs.Steps.{steps_of}
 

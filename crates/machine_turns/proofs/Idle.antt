@@ -1,5 +1,5 @@
 -- Units outside sections, and at their beginning.
-use Rattle.std.proofs.Common.{◌≡◌, ◌≢◌, refl, sym, ap, ◌∙◌, subst, ℕ, zero, suc, ◌<◌, ◌≤◌, ◌==◌, ◌&&◌, Bool, true, false, List, [], ◌∷◌, length, map, All, inl, inr, ◌⊎◌, arith}
+use Rattle.std.proofs.Common.{◌≡◌, ◌≢◌, refl, sym, ap, ◌∙◌, subst, ℕ, suc, ◌==◌, ◌&&◌, Bool, true, false, List, [], ◌∷◌, All, inl, inr, arith}
 use Rattle.std.specs.List.{list_all}
 use Rattle.std.proofs.lemmas.Bool.Decides.{nat_tests}
 use Rattle.std.proofs.lemmas.List.Elements.{All-nil, All-cons}
@@ -12,7 +12,7 @@ use Rattle.xmt_isa.specs.Fits.{UnitFits}
 use Rattle.xmt_isa.specs.Machine.{ready, is_stopped}
 use Rattle.unit_steps.specs.Steps.{begun, is_new_master}
 use Rattle.machine_turns.specs.declared.seats.Seat.{Seat}
-use Rattle.machine_turns.specs.Seats.{free, has_stopped, Tells, Holds}
+use Rattle.machine_turns.specs.Seats.{has_stopped}
 use Rattle.machine_turns.specs.Kept.{IsIdle, IsRunning, AreReadied, BehindMaster}
 
 -- ---- elements

@@ -1,5 +1,5 @@
 -- Legal schedules, one turn after another.
-use Rattle.std.proofs.Common.{◌≡◌, ℕ, ◌≤◌, List, map, [], ◌∷◌, ◌++◌, refl, sym, ap, ◌∙◌, slice_get, Some, true, false}
+use Rattle.std.proofs.Common.{◌≡◌, ℕ, List, map, [], ◌∷◌, ◌++◌, refl, sym, ap, ◌∙◌, slice_get, Some, true, false}
 use Rattle.std.specs.Option.{IsSomeAnd}
 use Rattle.xmt_isa.specs.declared.image.Image.{Image}
 use Rattle.xmt_isa.specs.Machine.{Machine, turn, after}

@@ -1,19 +1,14 @@
 -- How a picked run goes on.
-use Rattle.std.proofs.Common.{◌≡◌, ℕ, suc, ◌+◌, inl, inr, List, [], ◌++◌, length, map, take, count_by, Option, ap, refl, ◌∙◌, sym, subst}
-use Rattle.std.proofs.Math.Seq.{take-append-add, take-length}
+use Rattle.std.proofs.Common.{◌≡◌, ℕ, suc, List, [], ◌++◌, map, count_by, Option, ap, refl, ◌∙◌, sym}
 use Rattle.xmt_isa.specs.declared.image.Image.{Image}
-use Rattle.xmt_isa.specs.declared.run.Choice.{Choice}
 use Rattle.xmt_isa.specs.declared.run.Choice.TheVariants.{Step}
 use Rattle.xmt_isa.specs.Picked.{PickedRun, picked, choice_of, goes_by, state_after, is_active, is_spawned}
 use Rattle.machine_turns.specs.declared.machine.Machine as kept
 use Rattle.machine_turns.specs.View.{seen_seat, machine_of, run_of}
-use Rattle.machine_turns.specs.Steps.{IsWithin}
-use Rattle.machine_turns.specs.Kept.{Kept}
-use Rattle.machine_turns.specs.Turns.{Turns, IsCutShort}
-use Rattle.machine_turns.specs.Runs.{HasCome, HasEnded, EndsAs, PrintsPicked}
-use Rattle.xmt_isa.specs.Machine.{Machine, turn}
-use Rattle.xmt_isa.specs.Legal.{HasTurn, RunsTo}
-use Rattle.machine_turns.proofs.Advance.{kept_within}
+use Rattle.machine_turns.specs.Turns.{Turns}
+use Rattle.machine_turns.specs.Runs.{HasCome}
+use Rattle.xmt_isa.specs.Machine.{turn}
+use Rattle.xmt_isa.specs.Legal.{HasTurn}
 use Rattle.machine_turns.proofs.Legality.{leads_further}
 use Rattle.machine_turns.proofs.Printed.{prints_nothing, prints_then}
 

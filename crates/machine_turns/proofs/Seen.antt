@@ -1,10 +1,10 @@
 -- The kept machine as others see it.
-use Rattle.std.proofs.Common.{◌≡◌, ◌≢◌, refl, sym, ap, ◌∙◌, subst, ℕ, zero, suc, ◌<◌, ◌≤◌, ◌==◌, ◌&&◌, not, nat_eq, Bool, true, false, if◌then◌else◌, List, [], ◌∷◌, length, map, All, Option, Some, None, slice_get, slice_set, arith, inl, inr}
+use Rattle.std.proofs.Common.{◌≡◌, ◌≢◌, refl, sym, ap, ◌∙◌, subst, ℕ, zero, suc, ◌<◌, ◌≤◌, ◌==◌, ◌&&◌, not, Bool, true, false, if◌then◌else◌, List, [], ◌∷◌, length, map, All, Option, Some, None, slice_get, slice_set, arith, inl, inr}
 use Rattle.std.specs.List.{list_all}
 use Rattle.std.proofs.lemmas.Bool.Decides.{nat_tests}
 use Rattle.std.proofs.lemmas.List.Elements.{All-set, All-get_or}
 use Rattle.std.proofs.lemmas.List.{map-set, length-set}
-use Rattle.std.proofs.lemmas.Option.{get_or_from_slice_get, slice_get_cases, slice_get-map}
+use Rattle.std.proofs.lemmas.Option.{get_or_from_slice_get, slice_get_cases}
 use Rattle.std.specs.Option.{IsSomeAnd, IfSome}
 use Rattle.xmt_isa.specs.declared.image.Image.{Image}
 use Rattle.xmt_isa.specs.declared.unit.Unit.{Unit}
@@ -13,9 +13,9 @@ use Rattle.xmt_isa.specs.Machine.{is_stopped, waits_for}
 use Rattle.xmt_isa.specs.Picked.{is_live, is_active}
 use Rattle.machine_turns.specs.declared.seats.Seat.{Seat}
 use Rattle.machine_turns.specs.declared.machine.Machine as kept
-use Rattle.machine_turns.specs.Seats.{free, has_stopped, Tells, Holds, Replaced}
-use Rattle.machine_turns.specs.Kept.{IsIdle, IsRunning, Serial, Parallel, KeptBy, Kept, MayGo, IsAt}
-use Rattle.machine_turns.specs.View.{seen, seen_seat, machine_of}
+use Rattle.machine_turns.specs.Seats.{free, has_stopped, Holds, Replaced}
+use Rattle.machine_turns.specs.Kept.{IsIdle, IsRunning, KeptBy, Kept, MayGo}
+use Rattle.machine_turns.specs.View.{seen, seen_seat}
 
 -- ---- values that are there
 

@@ -1,5 +1,5 @@
 -- Texts that are printed.
-use Rattle.std.proofs.Common.{◌≡◌, ◌∙◌, sym, ap, subst, refl, ℕ, ◌<◌, ◌≤◌, List, length, false, get_or, Some, slice_get, Ok, Err, Result, IfOk, arith}
+use Rattle.std.proofs.Common.{◌≡◌, ◌∙◌, sym, ap, subst, ℕ, ◌<◌, ◌≤◌, List, length, false, get_or, Some, slice_get, Ok, Err, Result, IfOk, arith}
 use Rattle.std.proofs.lemmas.Option.{slice_get-get_or}
 use Rattle.xmt_base.specs.Format.{directives}
 use Rattle.xmt_isa.specs.declared.image.Image.{Image}

@@ -1,5 +1,5 @@
 -- Turns that print, and turns that don't.
-use Rattle.std.proofs.Common.{◌≡◌, refl, sym, ap, ◌∙◌, subst, ℕ, ◌<◌, ◌^◌, inl, inr, List, [], ◌++◌, append-nil, map, Some, None, Option, Bool, true, false, slice_get, slice_set, arith}
+use Rattle.std.proofs.Common.{◌≡◌, refl, sym, ap, ◌∙◌, subst, ℕ, inr, List, [], ◌++◌, append-nil, map, Some, Option, true, false, slice_get, slice_set, arith}
 use Rattle.std.specs.Option.{IfSome, IsSomeAnd}
 use Rattle.xmt_base.specs.Text.{piece}
 use Rattle.xmt_isa.specs.declared.image.Image.{Image}
@@ -9,7 +9,7 @@ use Rattle.xmt_isa.specs.declared.unit.UnitState.{UnitState}
 use Rattle.xmt_isa.specs.declared.unit.UnitState.TheVariants as state
 use Rattle.xmt_isa.specs.declared.unit.Request.TheVariants as request
 use Rattle.xmt_isa.specs.declared.unit.Next.TheVariants.{Ask}
-use Rattle.xmt_isa.specs.Step.{next_of, answer_of}
+use Rattle.xmt_isa.specs.Step.{answer_of}
 use Rattle.xmt_isa.specs.Machine.{Machine, turn, text_of}
 use Rattle.xmt_isa.specs.Picked.{is_live, is_active}
 use Rattle.unit_steps.specs.Steps.{DoesNext, answered}

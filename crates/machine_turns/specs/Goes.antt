@@ -1,5 +1,5 @@
 -- How a picked run goes on, by what the kept units do next.
-use Rattle.std.specs.Prelude.{◌≡◌, ℕ, ◌==◌, ◌&&◌, if◌then◌else◌, Bool, true, false, List, map, find, count_by}
+use Rattle.std.specs.Prelude.{◌≡◌, ℕ, ◌&&◌, Bool, true, false, List, map, find, count_by}
 use Rattle.std.specs.declared.option.Option.{Option}
 use Rattle.std.specs.declared.option.Option.TheVariants.{Some, None}
 use Rattle.xmt_isa.specs.declared.image.Image.{Image}
@@ -8,7 +8,7 @@ use Rattle.xmt_isa.specs.declared.run.Choice.TheVariants as choice
 use Rattle.xmt_isa.specs.Machine.{turn}
 use Rattle.xmt_isa.specs.Picked.{is_active, picks}
 use Rattle.tcu_engine.specs.declared.ask.Ask.{Ask}
-use Rattle.tcu_engine.specs.declared.ask.Ask.TheVariants.{Load, Store, Add, Draw, Print, Spawn, Pause, Stopped, Halt, Trap, Spent}
+use Rattle.tcu_engine.specs.declared.ask.Ask.TheVariants.{Print, Stopped, Halt, Trap, Spent}
 use Rattle.machine_turns.specs.declared.seats.Seat.{Seat}
 use Rattle.machine_turns.specs.declared.machine.Machine.{Machine}
 use Rattle.machine_turns.specs.Seats.{unit_of}

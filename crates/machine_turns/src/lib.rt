@@ -9,17 +9,16 @@ mod beginning;
 mod cells;
 mod data;
 mod machine;
-
+mod only_unit;
 mod print;
 mod seats;
 mod sections;
-mod only_unit;
 mod turn;
 
+pub use beginning::opening;
 pub use data::data_words;
 pub use machine::Machine;
-pub use beginning::opening;
+pub use only_unit::{is_active, run_on, sole_choice, sole_place};
 pub use seats::{Seat, reply_in};
 pub use sections::broadcast;
-pub use only_unit::{is_active, run_on, sole_choice, sole_place};
 pub use turn::take_turn;

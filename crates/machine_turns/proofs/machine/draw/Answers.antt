@@ -1,4 +1,4 @@
-use Rattle.std.proofs.Common.{◌≡◌, ◌∙◌, sym, refl, true, false, arith}
+use Rattle.std.proofs.Common.{◌≡◌, ◌∙◌, sym, refl, true}
 use Rattle.xmt_isa.specs.Step.{more}
 use Rattle.tcu_engine.specs.Asks.{is_request}
 use Rattle.tcu_engine.specs.declared.ask.Ask.TheVariants.{Draw}

@@ -1,4 +1,4 @@
-use Rattle.std.proofs.Common.{◌≡◌, ◌∙◌, refl, slice_get, Some, arith}
+use Rattle.std.proofs.Common.{◌≡◌, refl, slice_get, Some, arith}
 use Rattle.machine_turns.proofs.Texts.{there_at}
 use Rattle.machine_turns.proofs.Blocks.{spawn_fits, spawn_idle, turned_spawn}
 use Rattle.machine_turns.proofs.machine.spawn.Goals as goal

@@ -1,4 +1,4 @@
-use Rattle.std.proofs.Common.{◌≡◌, ◌-◌, ◌≤◌, length, take}
+use Rattle.std.proofs.Common.{◌-◌, ◌≤◌, length, take}
 use Rattle.xmt_host.specs.Told.{OnlyPrints}
 use Rattle.machine_turns.specs.Prints.{Prints}
 use Rattle.machine_turns.proofs.print.print_all.Given as goal

@@ -1,4 +1,4 @@
-use Rattle.std.proofs.Common.{◌≡◌, ◌∙◌, sym, ap, arith, slice_get, Some}
+use Rattle.std.proofs.Common.{◌≡◌, ◌∙◌, ap, arith, slice_get, Some}
 use Rattle.std.specs.Option.{IfSome}
 use Rattle.xmt_base.specs.Text.{piece}
 use Rattle.xmt_isa.specs.Machine.{text_of}

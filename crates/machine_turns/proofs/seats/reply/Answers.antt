@@ -1,7 +1,7 @@
-use Rattle.std.proofs.Common.{◌≡◌, ◌∙◌, ap, rules}
+use Rattle.std.proofs.Common.{◌≡◌, ◌∙◌, ap}
 use Rattle.unit_steps.specs.Steps.{begun, answered}
 use Rattle.xmt_isa.specs.declared.unit.Unit.{Unit}
-use Rattle.machine_turns.proofs.Asked.{Behind, behind_of, behind_within, begun_same, not_new}
+use Rattle.machine_turns.proofs.Asked.{Behind, behind_of, begun_same, not_new}
 use Rattle.machine_turns.proofs.seats.reply.Goals as goal
 
 pub returns : goal.returns

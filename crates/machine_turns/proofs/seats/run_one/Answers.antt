@@ -1,8 +1,8 @@
-use Rattle.std.proofs.Common.{◌≡◌, sym, ap, ◌∙◌, inl, inr, arith}
+use Rattle.std.proofs.Common.{◌≡◌, ap, ◌∙◌, inl, inr, arith}
 use Rattle.xmt_isa.specs.declared.unit.Unit.{Unit}
 use Rattle.xmt_isa.specs.declared.unit.Next.TheVariants as next
 use Rattle.xmt_isa.specs.Step.{is_due, local_of}
-use Rattle.unit_steps.specs.Steps.{is_new_master, begun, DoesNext}
+use Rattle.unit_steps.specs.Steps.{begun, DoesNext}
 use Rattle.machine_turns.specs.Seats.{free}
 use Rattle.machine_turns.proofs.Asked.{means_of, one_alone, begun_same, does_same, not_new}
 use Rattle.machine_turns.proofs.Frees.{local_stepped}
