@@ -147,4 +147,3 @@ pub(crate) fn choose(machine: &Machine, picker: &mut Picker) -> Choice
         Some(k) => sole_choice(machine.spawned, &machine.seats[k], k),
     }
 }
-
