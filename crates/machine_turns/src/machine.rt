@@ -68,6 +68,7 @@ pub(crate) fn run_more_alone(
     requires some { 1 ≤ most }
     ensures on { RunsOn image.now budget machine.old machine.new }
     ensures len { vec_len machine.new.seats ≡ vec_len machine.old.seats }
+    ensures spawned { machine.new.spawned ≡ machine.old.spawned }
 {
     run_more_in(image, &machine.start, budget, &mut machine.seats, k, most);
 }

@@ -83,6 +83,7 @@ pub fn run_on(image: &Loaded, budget: u64, machine: &mut Machine)
     requires kept { Kept image.now budget machine.old }
     ensures on { RunsOn image.now budget machine.old machine.new }
     ensures len { vec_len machine.new.seats ≡ vec_len machine.old.seats }
+    ensures spawned { machine.new.spawned ≡ machine.old.spawned }
 {
     match sole_place(machine) {
         None => {}
