@@ -12,7 +12,7 @@ use Rattle.interleaving.proofs.Grows.{differs}
 use Rattle.xmt_isa.specs.Step.{more}
 use Rattle.machine_sections.specs.Merge.{Cells, after_cell, IsTold}
 use Rattle.machine_sections.proofs.Merges.{all_sections_merge}
-use Rattle.machine_histories.specs.Histories.{IsAllowed, AreAllowed, draws_in, served_by, order_of, Agrees, HistoriesMerge}
+use Rattle.machine_histories.specs.Histories.{IsAllowed, AreAllowed, draws_in, served_by, order_of, Agrees, KeepsFirst, HistoriesMerge}
 
 index-same : (xs : List ℕ) (d x : ℕ) → d < length xs → slice_index (slice_set xs d x) d ≡ x
 index-same xs d x inside = get_or-set_same xs d x 0 inside
@@ -103,14 +103,21 @@ draws_one words c a room =
       long = subst (λ n. 4 ≤ n) (sym (length-set words 1 ((slice_index words 1 + 1) % 2 ^ 64))) long;
     }
 
+-- an access of a word of the machine leaves the first four
+reach_keeps : (c : Cells) (unit : ℕ) (access : Action) (place operand reply : ℕ) → 4 ≤ place → KeepsFirst c.words (after_cell c (served_by unit access place operand reply)).words
+reach_keeps c unit Load place operand reply far i low = refl
+reach_keeps c unit Store place operand reply far i low = index-other c.words place operand i (λ e. omega (arith, e, far, low))
+reach_keeps c unit Add place operand reply far i low = index-other c.words place ((slice_index c.words place + operand) % 2 ^ 32) i (λ e. omega (arith, e, far, low))
+
 -- ---- all accesses
 
 module _ (unit_of : ℕ → ℕ) (count : ℕ) where
   abbrev Ordered : List ℕ → Cells → List accesses.Entry → Type 0
   Ordered words c h = IsLawfulBy after_cell (IsTold count) c (order_of unit_of h) × Agrees (words_after words h) (world_after after_cell c (order_of unit_of h))
+      × KeepsFirst c.words (world_after after_cell c (order_of unit_of h)).words
 
   ordered : (h : List accesses.Entry) (words : List ℕ) (c : Cells) → Agrees words c → AllReplied words h → AreAllowed unit_of count h → slice_index words 1 + draws_in h < 2 ^ 64 → Ordered words c h
-  ordered [] words c a legal allowed room = (tt, a)
+  ordered [] words c a legal allowed room = (tt, a, λ i low. refl)
   ordered (e ∷ h) words c a legal allowed room = by_kind allowed.0
       (λ d b. ordered h (words_after_entry words e) d b legal.1 allowed.1)
     where
@@ -123,7 +130,7 @@ module _ (unit_of : ℕ → ℕ) (count : ℕ) where
           let kept : slice_index (words_after_entry words e) 1 ≡ slice_index words 1 = word_1 words e.action e.place e.operand (λ h. omega (arith, h, far)) in
           let room_here : slice_index words 1 + (0 + draws_in h) < 2 ^ 64 = rw no_draw at room in
           let rest = go (after_cell c (served_by (unit_of e.number) e.action e.place e.operand e.reply)) r.1 (omega (arith, kept, room_here)) in
-          rw test ((r.0, rest.0), rest.1)
+          rw test ((r.0, rest.0), rest.1, λ i low. rest.2 i low ∙ reach_keeps c (unit_of e.number) e.action e.place e.operand e.reply far i low)
       by_kind (inr (inl k)) go =
           let test : nat_lt 3 e.place ≡ false = let one : e.place ≡ 1 = k.0 in grind (arith, nat_tests, one) in
           let draw : (e.place == 1) ≡ true = let one : e.place ≡ 1 = k.0 in grind (arith, one) in
@@ -134,7 +141,7 @@ module _ (unit_of : ℕ → ℕ) (count : ℕ) where
           let b : Agrees (words_after_entry words e) (record c { drawn = more c.drawn }) = subst (λ ws. Agrees ws (record c { drawn = more c.drawn })) (sym after) (draws_one words c a (omega (arith, room_here))) in
           let rest = go (record c { drawn = more c.drawn }) b (omega (arith, word, room_here)) in
           let reply : e.reply ≡ c.drawn = legal.0 ∙ ap (slice_index words) k.0 ∙ sym a.drawn in
-          rw (test, draw) (((k.3, reply, tt), rest.0), rest.1)
+          rw (test, draw) (((k.3, reply, tt), rest.0), rest.1, rest.2)
       by_kind (inr (inr k)) go =
           let test : nat_lt 3 e.place ≡ false = elim k [ inl h ↦ grind (arith, nat_tests, h) | inr h ↦ grind (arith, nat_tests, h) ] in
           let draw : (e.place == 1) ≡ false = elim k [ inl h ↦ grind (arith, h) | inr h ↦ grind (arith, h) ] in
@@ -145,4 +152,4 @@ module _ (unit_of : ℕ → ℕ) (count : ℕ) where
 pub all_histories_merge : HistoriesMerge
 all_histories_merge image m master rest words h unit_of ends opened agrees legal allowed room each =
     let r = ordered unit_of (length rest) h words (record { words = m.words; drawn = m.drawn }) agrees legal allowed room in
-    (world_after after_cell (record { words = m.words; drawn = m.drawn }) (order_of unit_of h), r.1, all_sections_merge image m master rest (order_of unit_of h) ends opened r.0 each)
+    (world_after after_cell (record { words = m.words; drawn = m.drawn }) (order_of unit_of h), r.1, all_sections_merge image m master rest (order_of unit_of h) ends opened r.0 each, r.2)

@@ -49,6 +49,10 @@ pub record Agrees (words : List ℕ) (c : Cells) : Type 0 where
   pub drawn : c.drawn ≡ slice_index words 1
   pub long : 4 ≤ length words
 
+-- the four words in front of those of the machine are the same
+abbrev pub KeepsFirst : List ℕ → List ℕ → Type 0
+KeepsFirst old new = (place : ℕ) → place < 4 → slice_index new place ≡ slice_index old place
+
 -- A legal history of a section, with what each unit did alone, is a run of the machine by a legal schedule. `unit_of` tells
 -- which unit a number of a caller belongs to.
 abbrev pub HistoriesMerge : Type 0
@@ -57,4 +61,4 @@ HistoriesMerge =
     IsOpen m master rest → Agrees words (record { words = m.words; drawn = m.drawn }) →
     AllReplied words h → AreAllowed unit_of (length rest) h → slice_index words 1 + draws_in h < 2 ^ 64 →
     ((place : ℕ) (u : Unit) → slice_get rest place ≡ Some u → IsLocal image m.start u (part_of place (order_of unit_of h)) (ends place)) →
-    (c : Cells) × Agrees (words_after words h) c × Merged image m master ends (length rest) c
+    (c : Cells) × Agrees (words_after words h) c × Merged image m master ends (length rest) c × KeepsFirst m.words c.words

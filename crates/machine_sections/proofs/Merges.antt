@@ -24,7 +24,7 @@ use Rattle.xmt_isa.specs.Legal.{HasTurn, IsLegal}
 use Rattle.xmt_isa.specs.Threads.{begins, number_at, stops}
 use Rattle.machine_places.proofs.Lists.{get-set_same, get-set_other, all_false, active_unit, alike}
 use Rattle.machine_places.proofs.Units.{local_of-kept, answer_of-kept, answer_of-join, answer_of-draws, next_of-draws, is_plain}
-use Rattle.machine_sections.specs.Merge.{Cells, after_request, told, IsOfBlock, after_cell, IsTold, SectionsMerge, unit_move_by, unit_move}
+use Rattle.machine_sections.specs.Merge.{Cells, after_request, told, IsOfBlock, after_cell, IsTold, GoesOn, SectionsMerge, unit_move_by, unit_move}
 
 -- ---- a unit by itself
 
@@ -229,6 +229,9 @@ record OwnPart (image : Image) (start : Start) (u : Unit) (part : List (Entry Re
   does : Does (unit_move image start) steps u part mid
   ends : inside → new ≡ record mid { waits = new.waits }
 
+same_some : (x y : Unit) → Some x ≡ Some y → x ≡ y
+same_some x y same = cc
+
 pub all_sections_merge : SectionsMerge
 all_sections_merge image m master rest order ends opened lawful each =
     let r = interleaves (λ x place. turn image x (suc place)) (λ x place. HasTurn image x (suc place)) (λ t. unit_move image m.start) after_cell (IsTold (length rest)) (λ c t. t < length rest) (λ c states e. ⊤)
@@ -248,6 +251,16 @@ all_sections_merge image m master rest order ends opened lawful each =
       units = ap (λ (x : Machine). x.units) r.holds.machine;
       size = r.holds.size;
       each = λ place inside. (r.states place, r.holds.at place inside, subst (λ u. ends place ≡ record u { waits = (ends place).waits }) (sym (r.stands place inside)) ((own place).ends inside));
+      goes = λ place inside old u before now.
+          let first : slice_get (master ∷ rest) (suc place) ≡ Some old = subst (λ us. slice_get us (suc place) ≡ Some old) opened.units before in
+          let begins : unit_at rest master place ≡ old = same_some _ _ (sym (get-unit_at rest master place inside) ∙ first) in
+          let ends_at : (own place).mid ≡ u = sym (r.stands place inside) ∙ same_some _ _ (sym (r.holds.at place inside) ∙ now) in
+          record {
+            part = part_of place order;
+            steps = (own place).steps;
+            does = subst (λ x. Does (unit_move image m.start) (own place).steps x (part_of place order) u) begins
+                (subst (λ x. Does (unit_move image m.start) (own place).steps (unit_at rest master place) (part_of place order) x) ends_at (own place).does);
+          };
       words = ap (λ (x : Machine). x.words) r.holds.machine;
       drawn = ap (λ (x : Machine). x.drawn) r.holds.machine;
       start = ap (λ (x : Machine). x.start) r.holds.machine;

@@ -1,5 +1,5 @@
 -- The control units of a section: what each does by itself, and a lawful order of their requests, make a schedule.
-use Rattle.std.specs.Prelude.{◌≡◌, ⊤, ℕ, ◌+◌, ◌%◌, ◌^◌, ◌<◌, true, false, if◌then◌else◌, List, ◌∷◌, length, slice_get, slice_index, slice_set}
+use Rattle.std.specs.Prelude.{◌≡◌, ⊤, ℕ, suc, ◌+◌, ◌%◌, ◌^◌, ◌<◌, true, false, if◌then◌else◌, List, ◌∷◌, length, slice_get, slice_index, slice_set}
 use Rattle.std.specs.declared.option.Option.TheVariants.{Some}
 use Rattle.std.specs.List.{list_all}
 use Rattle.interleaving.specs.Actors.{Move, Rests, Alone, Acts, Entry, part_of, Does, world_after, IsLawfulBy}
@@ -66,6 +66,12 @@ unit_move image start u = if is_live u.state then unit_move_by image start u (ne
 abbrev pub IsLocal : Image → Start → (old : Unit) → List (Entry Request) → (new : Unit) → Type 0
 IsLocal image start old part new = (steps : ℕ) × (mid : Unit) × Does (unit_move image start) steps old part mid × (new ≡ record mid { waits = new.waits })
 
+-- a unit comes by itself, by some part of its own, from one state to another
+pub record GoesOn (image : Image) (start : Start) (old new : Unit) : Type 0 where
+  pub part : List (Entry Request)
+  pub steps : ℕ
+  pub does : Does (unit_move image start) steps old part new
+
 -- ---- a section
 
 -- a section goes on
@@ -87,6 +93,7 @@ pub record Merged (image : Image) (m : Machine) (master : Unit) (ends : ℕ → 
   pub units : there.units ≡ joins image m.start (master ∷ rest)
   pub size : length rest ≡ count
   pub each : (place : ℕ) → place < count → (u : Unit) × (slice_get rest place ≡ Some u) × (ends place ≡ record u { waits = (ends place).waits })
+  pub goes : (place : ℕ) → place < count → (old u : Unit) → slice_get m.units (suc place) ≡ Some old → slice_get rest place ≡ Some u → GoesOn image m.start old u
   pub words : there.words ≡ c.words
   pub drawn : there.drawn ≡ c.drawn
   pub start : there.start ≡ m.start

@@ -7,7 +7,7 @@ use Rattle.shared_words.specs.declared.log.Entry.{Entry}
 use Rattle.prefix_sum.specs.Draws.{at_place, replies, CountsUp}
 use Rattle.xmt_isa.specs.Machine.{Machine}
 use Rattle.machine_sections.specs.Merge.{Cells, IsOpen, Merged}
-use Rattle.machine_histories.specs.Histories.{Agrees}
+use Rattle.machine_histories.specs.Histories.{Agrees, KeepsFirst}
 use Rattle.spawn_join.specs.declared.worker.Worker.{Worker}
 use Rattle.spawn_join.specs.Ends.{AllStopped}
 use Rattle.spawn_join.specs.Worked.{RanAtOnce, units_of}
@@ -21,6 +21,7 @@ SectionMerges =
     slice_index left 1 < 2 ^ 64 → m.start.count + length olds + 1 < 2 ^ 64 →
     RanAtOnce image m.start words olds news left →
     (c : Cells) × Agrees left c × Merged image m master (λ place. slice_index_or (units_of news) place master) (length (units_of olds)) c
+    × KeepsFirst m.words c.words
 
 -- The draws of units that ran at once get the numbers from 0 on, each once and none left out, and no access is at the word that halts.
 -- Where all have stopped, each number below the count was drawn.
