@@ -1,0 +1,12 @@
+pub mod Ends
+pub mod Handed
+pub mod Inside
+pub mod Joined
+pub mod Leads
+pub mod Led
+pub mod Numbers
+pub mod Places
+pub mod Rises
+pub mod Serial
+pub mod Spawned
+pub mod Widths
