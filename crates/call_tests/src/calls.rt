@@ -1,6 +1,8 @@
 //! Calls of the commands over a host in memory.
+use spawn_join::OpenGate;
 use std::alloc::Global;
 use std::test::Fail;
+use std::thread::Threads;
 use xmt_host::MemoryHost;
 use xmt_top::xmt;
 
@@ -22,8 +24,7 @@ fn words_of(alloc: Global, line: &str) -> Result<Vec<String>, Fail> {
 }
 
 /// A host with these files.
-pub(crate) fn host_of(rt: &HostRuntime, files: &[(&str, &[u8])]) -> Result<MemoryHost, Fail> {
-    let alloc = rt.alloc();
+pub(crate) fn host_of(alloc: Global, files: &[(&str, &[u8])]) -> Result<MemoryHost, Fail> {
     let mut host = MemoryHost::new(alloc, Vec::new(alloc));
     for (name, bytes) in files {
         host.with_file(name, Vec::from_slice(alloc, bytes)?)?;
@@ -32,9 +33,14 @@ pub(crate) fn host_of(rt: &HostRuntime, files: &[(&str, &[u8])]) -> Result<Memor
 }
 
 /// The exit code of a call with these words.
-pub(crate) fn call(rt: &HostRuntime, host: &mut MemoryHost, line: &str) -> Result<u8, Fail> {
-    let words = words_of(rt.alloc(), line)?;
-    Ok(xmt(rt.alloc(), words.as_slice(), host).code)
+pub(crate) fn call<R: Threads + Sync>(
+    rt: &R,
+    alloc: Global,
+    host: &mut MemoryHost,
+    line: &str,
+) -> Result<u8, Fail> {
+    let words = words_of(alloc, line)?;
+    Ok(xmt(rt, alloc, words.as_slice(), host, &OpenGate).code)
 }
 
 /// The bytes of a file, where it is there.
@@ -46,13 +52,17 @@ pub(crate) fn file<'a>(host: &'a MemoryHost, name: &str) -> Option<&'a [u8]> {
 }
 
 /// The image of a source.
-pub(crate) fn image_of(rt: &HostRuntime, source: &str) -> Result<Vec<u8>, Fail> {
-    let mut host = host_of(rt, &[("p.xmtc", source.as_bytes())])?;
-    if call(rt, &mut host, "cc p.xmtc --out p.img")? != 0 {
+pub(crate) fn image_of<R: Threads + Sync>(
+    rt: &R,
+    alloc: Global,
+    source: &str,
+) -> Result<Vec<u8>, Fail> {
+    let mut host = host_of(alloc, &[("p.xmtc", source.as_bytes())])?;
+    if call(rt, alloc, &mut host, "cc p.xmtc --out p.img")? != 0 {
         return Err("the source is refused")?;
     }
     let bytes = file(&host, "p.img").ok_or("there is no image")?;
-    Ok(Vec::from_slice(rt.alloc(), bytes)?)
+    Ok(Vec::from_slice(alloc, bytes)?)
 }
 
 /// Whether a host has printed and complained this.

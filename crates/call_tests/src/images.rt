@@ -2,6 +2,7 @@
 use crate::calls::{call, file, has_said, host_of};
 use std::alloc::Global;
 use std::test::Fail;
+use std::thread::Threads;
 
 // An instruction: operation, three registers and a number.
 type Row = (u8, u8, u8, u8, u32);
@@ -44,9 +45,15 @@ fn image(alloc: Global, rows: &[Row]) -> Result<Vec<u8>, Fail> {
 }
 
 // Whether `sim` of these bytes ends with this code and line, and prints nothing.
-fn ends(rt: &HostRuntime, bytes: &[u8], code: u8, err: &str) -> Result<bool, Fail> {
-    let mut host = host_of(rt, &[("p.img", bytes)])?;
-    let found = call(rt, &mut host, "sim p.img --budget 1000 --dump d")?;
+fn ends<R: Threads + Sync>(
+    rt: &R,
+    alloc: Global,
+    bytes: &[u8],
+    code: u8,
+    err: &str,
+) -> Result<bool, Fail> {
+    let mut host = host_of(alloc, &[("p.img", bytes)])?;
+    let found = call(rt, alloc, &mut host, "sim p.img --budget 1000 --dump d")?;
     let dumped = file(&host, "d").is_some();
     Ok(found == code && has_said(&host, "", err) && dumped == (code == 0))
 }
@@ -57,11 +64,11 @@ static RETURN: [Row; 1] = [(24, 0, 0, 0, 0)];
 fn prefixes_are_short(rt: HostRuntime) -> Result<(), Fail> {
     let bytes = image(rt.alloc(), &RETURN)?;
     assert_eq!(rt; bytes.len(), 92);
-    assert!(rt; ends(&rt, bytes.as_slice(), 0, "")?);
+    assert!(rt; ends(&rt, rt.alloc(), bytes.as_slice(), 0, "")?);
     for (length, _) in bytes.iter().enumerate() {
         let prefix = bytes.get(..length).ok_or("no prefix")?;
         assert!(rt;
-            ends(&rt, prefix, 3, "xmt: p.img: Short\n")?,
+            ends(&rt, rt.alloc(), prefix, 3, "xmt: p.img: Short\n")?,
             "{length} bytes"
         );
     }
@@ -72,11 +79,30 @@ fn prefixes_are_short(rt: HostRuntime) -> Result<(), Fail> {
 #[test]
 fn long_files_are_refused(rt: HostRuntime) -> Result<(), Fail> {
     let mut bytes = vec![in rt.alloc(); b' '; 67_108_864]?;
-    assert!(rt; ends(&rt, bytes.as_slice(), 3, "xmt: p.img: BadMark\n")?);
+    assert!(rt;
+        ends(
+            &rt,
+            rt.alloc(),
+            bytes.as_slice(),
+            3,
+            "xmt: p.img: BadMark\n"
+        )?
+    );
     bytes.push(b' ')?;
-    assert!(rt; ends(&rt, bytes.as_slice(), 3, "xmt: p.img: TooLong\n")?);
-    let mut host = host_of(&rt, &[("p.xmtc", b"main(){}"), ("m", bytes.as_slice())])?;
-    assert_eq!(rt; call(&rt, &mut host, "run p.xmtc --map m")?, 3);
+    assert!(rt;
+        ends(
+            &rt,
+            rt.alloc(),
+            bytes.as_slice(),
+            3,
+            "xmt: p.img: TooLong\n"
+        )?
+    );
+    let mut host = host_of(
+        rt.alloc(),
+        &[("p.xmtc", b"main(){}"), ("m", bytes.as_slice())],
+    )?;
+    assert_eq!(rt; call(&rt, rt.alloc(), &mut host, "run p.xmtc --map m")?, 3);
     assert!(rt; has_said(&host, "", "xmt: m: TooLong\n"));
     Ok(())
 }

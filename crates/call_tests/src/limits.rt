@@ -2,14 +2,20 @@
 use crate::calls::{call, has_said, host_of};
 use std::alloc::Global;
 use std::test::Fail;
+use std::thread::Threads;
 use xmt_host::MemoryHost;
 
 const RACE: &str = "int x; main() { spawn(0, 1) { x = $; } printf(\"%d\\n\", x); }";
 
 // Runs words over a host with one file.
-fn run(rt: &HostRuntime, words: &str, source: &[u8]) -> Result<(u8, MemoryHost), Fail> {
-    let mut host = host_of(rt, &[("p.xmtc", source)])?;
-    let code = call(rt, &mut host, words)?;
+fn run<R: Threads + Sync>(
+    rt: &R,
+    alloc: Global,
+    words: &str,
+    source: &[u8],
+) -> Result<(u8, MemoryHost), Fail> {
+    let mut host = host_of(alloc, &[("p.xmtc", source)])?;
+    let code = call(rt, alloc, &mut host, words)?;
     Ok((code, host))
 }
 
@@ -25,8 +31,8 @@ fn seeds_pick_the_run(rt: HostRuntime) -> Result<(), Fail> {
     let (mut zero, mut one) = (false, false);
     for seed in 0..20 {
         let line = format!(in alloc; "run p.xmtc --units 2 --seed {seed}")?;
-        let (code, first) = run(&rt, line.as_str(), RACE.as_bytes())?;
-        let (_, second) = run(&rt, line.as_str(), RACE.as_bytes())?;
+        let (code, first) = run(&rt, alloc, line.as_str(), RACE.as_bytes())?;
+        let (_, second) = run(&rt, alloc, line.as_str(), RACE.as_bytes())?;
         assert_eq!(rt; code, 0);
         assert!(rt; first.out.as_slice() == second.out.as_slice());
         match first.out.as_slice() {
@@ -76,7 +82,7 @@ fn brackets_are_bounded(rt: HostRuntime) -> Result<(), Fail> {
     let alloc = rt.alloc();
     for (pairs, end) in DEPTHS {
         let source = bracketed(alloc, pairs)?;
-        let (_code, host) = run(&rt, "run p.xmtc", source.as_slice())?;
+        let (_code, host) = run(&rt, alloc, "run p.xmtc", source.as_slice())?;
         let wanted = if end.is_empty() {
             String::new(alloc)
         } else {
@@ -94,10 +100,10 @@ fn brackets_are_bounded(rt: HostRuntime) -> Result<(), Fail> {
 fn limits_hold(rt: HostRuntime) -> Result<(), Fail> {
     let alloc = rt.alloc();
     let source = spaced(alloc, 1_048_576)?;
-    let (found, _host) = run(&rt, "run p.xmtc", source.as_slice())?;
+    let (found, _host) = run(&rt, alloc, "run p.xmtc", source.as_slice())?;
     assert_eq!(rt; found, 0);
     let source = spaced(alloc, 1_048_577)?;
-    let (found, host) = run(&rt, "run p.xmtc", source.as_slice())?;
+    let (found, host) = run(&rt, alloc, "run p.xmtc", source.as_slice())?;
     assert_eq!(rt; found, 1);
     assert!(rt; has_said(&host, "", "xmt: p.xmtc:1:1: TooLong\n"));
     Ok(())

@@ -16,30 +16,36 @@ use crate::jobs::job_line;
 use anyhow::Error;
 use std::alloc::{AllocError, Global};
 use std::env;
+use std::thread::Threads;
 use test_rows::{Row, read_rows};
 
 fn main(rt: HostRuntime) -> Result<(), Error> {
     for file in env::args(&rt)?.skip(1) {
         for row in read_rows(&rt, rt.alloc(), file.as_str())?.iter() {
-            show(&rt, row)?;
+            show(&rt, rt.alloc(), row)?;
         }
     }
     Ok(())
 }
 
 // Prints a line for each call of a row.
-fn show(rt: &HostRuntime, row: &Row) -> Result<(), Error> {
-    for call in row.texts(rt.alloc(), "calls")?.iter() {
-        let line = line_of(rt.alloc(), row, call.as_str())?;
+fn show<R: Threads + Sync + Print>(rt: &R, alloc: Global, row: &Row) -> Result<(), Error> {
+    for call in row.texts(alloc, "calls")?.iter() {
+        let line = line_of(rt, alloc, row, call.as_str())?;
         println!(rt; "{line}")?;
     }
     Ok(())
 }
 
 // The line of one call of a row.
-fn line_of(alloc: Global, row: &Row, call: &str) -> Result<String, AllocError> {
+fn line_of<R: Threads + Sync>(
+    rt: &R,
+    alloc: Global,
+    row: &Row,
+    call: &str,
+) -> Result<String, AllocError> {
     match row.text("job") {
         Some(job) => job_line(alloc, call, job),
-        None => call_line(alloc, row, call),
+        None => call_line(rt, alloc, row, call),
     }
 }

@@ -1,8 +1,9 @@
 //! Runs the programs of its tables over a host in memory, and prints a line for each row.
 //!
-//! A row has a `source` and what its run gives: the exit `code`, what it prints (`out`) and the line on the error stream
+//! A row has a `source` or the bytes of an `image`, and what its run gives: the exit `code`, what it prints (`out`) and the line on the error stream
 //! (`err`), where 0 and nothing are left out. It runs under each of its `words`, or else by default, on one unit, and
-//! on many in an order that a seed picks. `failing` is the number of the print that fails.
+//! on many in an order that a seed picks. Without a seed each unit is a host thread, and no row's answer hangs on which
+//! schedule that is. `failing` is the number of the print that fails.
 #![tactic(auto)]
 
 mod runs;
@@ -11,6 +12,7 @@ use crate::runs::{outcome_of, wanted};
 use anyhow::Result;
 use std::alloc::{AllocError, Global};
 use std::env;
+use std::thread::Threads;
 use test_rows::{Row, read_rows, verdict};
 
 // The words of a row that names none.
@@ -25,7 +27,7 @@ fn main(rt: HostRuntime) -> Result<()> {
     for file in env::args(&rt)?.skip(1) {
         let rows = read_rows(&rt, alloc, file.as_str())?;
         for row in rows.iter() {
-            let line = line_of(alloc, row)?;
+            let line = line_of(&rt, alloc, row)?;
             println!(rt; "{line}")?;
         }
         println!(rt; "{file}: {} rows", rows.len())?;
@@ -34,12 +36,12 @@ fn main(rt: HostRuntime) -> Result<()> {
 }
 
 // The line of a row: of the first words under which it gives something else, if there are any.
-fn line_of(alloc: Global, row: &Row) -> Result<String, AllocError> {
+fn line_of<R: Threads + Sync>(rt: &R, alloc: Global, row: &Row) -> Result<String, AllocError> {
     let wanted = wanted(alloc, row)?;
     let mut found = wanted.clone()?;
     for words in words_of(alloc, row)?.iter() {
         if found == wanted {
-            found = outcome_of(alloc, row, words.as_str())?;
+            found = outcome_of(rt, alloc, row, words.as_str())?;
         }
     }
     verdict(alloc, row.name(), found.as_str(), wanted.as_str())

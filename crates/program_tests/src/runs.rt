@@ -1,5 +1,7 @@
 //! One run of a row's source.
+use spawn_join::OpenGate;
 use std::alloc::{AllocError, Global};
+use std::thread::Threads;
 use test_rows::{Row, shown};
 use xmt_host::{HostCall, MemoryHost};
 use xmt_top::xmt;
@@ -27,7 +29,7 @@ fn split(alloc: Global, line: &str) -> Result<Vec<String>, AllocError> {
     Ok(words)
 }
 
-// A host in memory with the row's source, of which the named print fails.
+// A host in memory with the row's source and the bytes of its image, of which the named print fails.
 fn host_of(alloc: Global, row: &Row) -> Result<MemoryHost, AllocError> {
     let mut failing = Vec::new(alloc);
     if let Some(number) = row.number("failing") {
@@ -38,14 +40,20 @@ fn host_of(alloc: Global, row: &Row) -> Result<MemoryHost, AllocError> {
     let mut host = MemoryHost::new(alloc, failing);
     let source = Vec::from_slice(alloc, row.text_or_empty("source").as_bytes())?;
     host.with_file("p.xmtc", source)?;
+    host.with_file("p.img", row.bytes(alloc, "image")?)?;
     Ok(host)
 }
 
 /// What a row's source gives under these words.
-pub(crate) fn outcome_of(alloc: Global, row: &Row, line: &str) -> Result<String, AllocError> {
+pub(crate) fn outcome_of<R: Threads + Sync>(
+    rt: &R,
+    alloc: Global,
+    row: &Row,
+    line: &str,
+) -> Result<String, AllocError> {
     let mut host = host_of(alloc, row)?;
     let words = split(alloc, line)?;
-    let status = xmt(alloc, words.as_slice(), &mut host);
+    let status = xmt(rt, alloc, words.as_slice(), &mut host, &OpenGate);
     outcome(
         alloc,
         i64::from(status.code),

@@ -2,6 +2,7 @@
 //! stored run shows it.
 #![tactic(auto)]
 
+use spawn_join::OpenGate;
 use std::alloc::{AllocError, Global};
 use std::env;
 use std::io::ErrorKind;
@@ -24,7 +25,7 @@ fn main(rt: HostRuntime) -> ExitCode {
         return ExitCode::from(NO_MEMORY);
     };
     let mut host = RealHost::new(&rt);
-    ExitCode::from(xmt(rt.alloc(), words.as_slice(), &mut host).code)
+    ExitCode::from(xmt(&rt, rt.alloc(), words.as_slice(), &mut host, &OpenGate).code)
 }
 
 // The words behind the program's name.

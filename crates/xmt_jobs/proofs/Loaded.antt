@@ -1,5 +1,5 @@
 -- From the run of a loaded image and its dump to what a job has done.
-use Rattle.std.proofs.Common.{◌≡◌, ◌∙◌, sym, subst, ℕ, List, Option, Some, None, inl, inr}
+use Rattle.std.proofs.Common.{◌≡◌, ◌∙◌, sym, subst, ℕ, List, Option, inl, inr}
 use Rattle.xmt_host.specs.Told.{FileMap}
 use Rattle.xmt_isa.specs.declared.image.Image.{Image}
 use Rattle.xmt_isa.specs.declared.run.Choice.{Choice}
@@ -7,10 +7,9 @@ use Rattle.xmt_isa.specs.declared.run.Choice.TheVariants as choice
 use Rattle.run_options.specs.declared.options.SimOptions.{SimOptions}
 use Rattle.xmt_isa.specs.Machine.{Machine}
 use Rattle.xmt_isa.specs.Legal.{HasHalted}
-use Rattle.machine_core.specs.Runs.{EndsAs, PrintsPicked}
 use Rattle.machine_turns.specs.Runs.{data_words}
 use Rattle.memory_map.specs.DumpText.{dump_text}
-use Rattle.xmtsim_run.specs.Runs.{picked_run}
+use Rattle.xmtsim_run.specs.Runs.{EndsUnder, PrintsUnder}
 use Rattle.xmt_cli.specs.Given.{Text}
 use Rattle.xmt_jobs.specs.declared.outcome.Outcome.{Outcome}
 use Rattle.xmt_jobs.specs.declared.outcome.Outcome.TheVariants.{Done, SourceRefused, ImageRefused, MapRefused, Trap, Spent, Fault, NoMemory}
@@ -36,12 +35,11 @@ module _ (image : Image) (options : SimOptions) (map dump : Option Text) (before
   with_dump done (Spent unit steps) put = absurd put
 
   pub dumped : (memory : List ℕ) → OpensAs before.files map image.symbols image.words memory → (out mid : Option (List ℕ)) → out ≡ before.out → now.out ≡ mid → (files : Option FileMap) → files ≡ before.files → (left : List ℕ) →
-      (machine : Machine) × EndsAs image options.budget (picked_run image memory options) choice.Done machine out mid × HasHalted machine × (left ≡ data_words image machine.words) →
+      (machine : Machine) × EndsUnder image memory options choice.Done machine out mid × HasHalted machine × (left ≡ data_words image machine.words) →
       (o : Outcome) → PutsDump dump (dump_text image.symbols left) files now.files o → HasRunLoaded image options map dump before now o
   dumped memory opens out mid same_out same_mid files same_files left e o put =
-      let begin = picked_run image memory options in
-      let ended : EndsAs image options.budget begin choice.Done e.0 before.out now.out =
-      subst (λ (x : Option (List ℕ)). EndsAs image options.budget begin choice.Done e.0 before.out x) (sym same_mid) (subst (λ (x : Option (List ℕ)). EndsAs image options.budget begin choice.Done e.0 x mid) same_out e.1) in
+      let ended : EndsUnder image memory options choice.Done e.0 before.out now.out =
+      subst (λ (x : Option (List ℕ)). EndsUnder image memory options choice.Done e.0 before.out x) (sym same_mid) (subst (λ (x : Option (List ℕ)). EndsUnder image memory options choice.Done e.0 x mid) same_out e.1) in
       with_dump (record { memory = memory; opens = opens; machine = e.0; run = record { ended = ended; halted = λ is. e.2 } }) o
       (subst (λ (x : List ℕ). PutsDump dump (dump_text image.symbols x) before.files now.files o) e.3 (subst (λ (x : Option FileMap). PutsDump dump (dump_text image.symbols left) x now.files o) same_files put))
 
@@ -56,10 +54,10 @@ module _ (file : Text) (options : SimOptions) (map dump : Option Text) (before m
 
   pub runs_before : (memory : List ℕ) (end : Choice) (machine : Machine) → RunsTo image memory options end machine mid now → RunsTo image memory options end machine before now
   runs_before memory end machine h =
-      record { ended = subst (λ (x : Option (List ℕ)). EndsAs image options.budget (picked_run image memory options) end machine x now.out) out h.ended; halted = h.halted }
+      record { ended = subst (λ (x : Option (List ℕ)). EndsUnder image memory options end machine x now.out) out h.ended; halted = h.halted }
 
-  pub prints_before : (memory : List ℕ) → PrintsPicked image options.budget (picked_run image memory options) mid.out now.out → PrintsPicked image options.budget (picked_run image memory options) before.out now.out
-  prints_before memory h = subst (λ (x : Option (List ℕ)). PrintsPicked image options.budget (picked_run image memory options) x now.out) out h
+  pub prints_before : (memory : List ℕ) → PrintsUnder image memory options mid.out now.out → PrintsUnder image memory options before.out now.out
+  prints_before memory h = subst (λ (x : Option (List ℕ)). PrintsUnder image memory options x now.out) out h
 
   module _ (holds : HoldsImage before.files file image) where
     abbrev simulated : (end : Choice) → RunsFrom image options map dump mid now end → HasSimulated file options map end before now

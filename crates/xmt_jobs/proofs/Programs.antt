@@ -1,5 +1,5 @@
 -- From the run of a loaded image to what the source that it implements has done.
-use Rattle.std.proofs.Common.{◌≡◌, ◌≢◌, ◌∙◌, refl, sym, ap, subst, ℕ, List, length, Option, Some, None, inl, inr}
+use Rattle.std.proofs.Common.{◌≡◌, ◌≢◌, ◌∙◌, ap, subst, ℕ, List, length, Option, Some, None, inl, inr}
 use Rattle.xmt_base.specs.declared.values.Symbol.{Symbol}
 use Rattle.xmt_host.specs.Told.{FileMap}
 use Rattle.source_meaning.specs.declared.tree.Program.{Program}
@@ -9,13 +9,7 @@ use Rattle.xmt_isa.specs.declared.run.Choice.{Choice}
 use Rattle.xmt_isa.specs.declared.run.Choice.TheVariants as choice
 use Rattle.run_options.specs.declared.options.SimOptions.{SimOptions}
 use Rattle.xmt_isa.specs.Machine.{Machine}
-use Rattle.xmt_isa.specs.Opening.{opening}
-use Rattle.xmt_isa.specs.Legal as machine
-use Rattle.xmt_isa.specs.Picked.{PickedRun, picked}
-use Rattle.machine_core.specs.Runs.{PrintsPicked}
-use Rattle.machine_turns.specs.Runs.{data_words}
-use Rattle.xmtsim_run.specs.Runs.{picked_run}
-use Rattle.xmt_compile.specs.Ended.{HasDone}
+use Rattle.xmt_isa.specs.Picked.{PickedRun}
 use Rattle.xmt_cli.specs.Given.{Text}
 use Rattle.xmt_cli.specs.JobOf.{AreInRange}
 use Rattle.xmt_jobs.specs.declared.outcome.Outcome.{Outcome}
@@ -23,7 +17,7 @@ use Rattle.xmt_jobs.specs.declared.outcome.Outcome.TheVariants.{Done, SourceRefu
 use Rattle.xmt_host.specs.Told.{Told}
 use Rattle.xmt_jobs.specs.Files.{MayPut, MayPutPart}
 use Rattle.xmt_jobs.specs.Faults.{HoldsNoMap, OpensAs}
-use Rattle.xmt_jobs.specs.Runs.{RunsTo, dump_of}
+use Rattle.xmt_jobs.specs.Runs.{dump_of}
 use Rattle.xmt_jobs.specs.Sources.{Implemented, HasRun, HasRunPart}
 use Rattle.xmt_jobs.specs.Images.{RunsFrom, RunsPartly, IsCutOff, HasRunLoaded}
 use Rattle.xmt_jobs.specs.Ended.{IsCutRunning, HasEndedRunning}
@@ -55,13 +49,13 @@ module _ (file : Text) (options : SimOptions) (range : AreInRange options) (map 
   size_of : (memory : List ℕ) → OpensAs mid.files map image.symbols image.words memory → length memory ≡ all_words program.globals
   size_of memory h = memory_size mid.files map image.symbols image.words memory h ∙ (ap length words_same ∙ opening_size is.holds.source program is.holds.is_program)
 
+  -- this machine, with a generator that isn't looked at
+  abbrev run_at : Machine → PickedRun
+  run_at machine = record { machine = machine; state = 0 }
+
   abbrev has_run : (end : Choice) → ((k : ℕ) → end ≢ choice.Step k) → RunsFrom image options map dump mid now end → HasRun file options map end before now
   has_run end ended h =
       let e = h.run.ended in
-      let run : PickedRun = picked image options.budget (picked_run image h.memory options) e.choices in
-      let legal : machine.RunsTo image (opening image h.memory options.units) run.machine = subst (λ (m : Machine). machine.RunsTo image (opening image h.memory options.units) m) (sym e.reaches) e.legal in
-      let done : HasDone program h.memory options.units options.budget end run.machine.out (data_words image run.machine.words) =
-      picked_ends program image is.implements h.memory options.units options.budget (size_of h.memory h.opens) range.0 range.1 run legal end e.ends ended in
       record {
         program = program;
         holds = is.holds;
@@ -71,13 +65,12 @@ module _ (file : Text) (options : SimOptions) (range : AreInRange options) (map 
         opens = opens_program h.memory h.opens;
         machine = h.machine;
         run = runs_before file options map dump before mid now files out image h.memory end h.machine h.run;
-        does = subst (λ (m : Machine). HasDone program h.memory options.units options.budget end m.out (data_words image m.words)) e.reaches done;
+        does = picked_ends program image is.implements h.memory options.units options.budget (size_of h.memory h.opens) range.0 range.1 (run_at h.machine) e.reached.legal end (e.ends 0) ended;
       }
 
   has_run_part : RunsPartly image options map dump mid now → HasRunPart file options map before now
   has_run_part h =
       let p = prints_before file options map dump before mid now files out image h.memory h.printed in
-      let run : PickedRun = picked image options.budget (picked_run image h.memory options) p.choices in
       record {
         program = program;
         holds = is.holds;
@@ -85,10 +78,9 @@ module _ (file : Text) (options : SimOptions) (range : AreInRange options) (map 
         implements = is.implements;
         memory = h.memory;
         opens = opens_program h.memory h.opens;
-        choices = p.choices;
-        output = run.machine.out;
-        is_picked = refl;
-        does = picked_prints program image is.implements h.memory options.units options.budget (size_of h.memory h.opens) range.0 range.1 run p.legal;
+        machine = p.machine;
+        reached = p.reached;
+        does = picked_prints program image is.implements h.memory options.units options.budget (size_of h.memory h.opens) range.0 range.1 (run_at p.machine) p.reached.legal;
         printed = p.printed;
       }
 

@@ -18,7 +18,7 @@ use Rattle.xmt_isa.specs.Legal.{RunsTo}
 use Rattle.machine_turns.specs.Runs.{data_words}
 use Rattle.memory_map.specs.declared.read.MapRefusal.{MapRefusal}
 use Rattle.memory_map.specs.declared.read.Reading.{Reading}
-use Rattle.memory_map.specs.MapText.{MapText, index_of, opening_of, put_values, read_values, read_symbol, read_named, read_line, read_lines, read_text, and_then}
+use Rattle.memory_map.specs.MapText.{MapText, index_of, opening_of, put_values, read_values, read_symbol, read_named, read_line, read_lines, and_then}
 use Rattle.memory_map.specs.Words.{value_of, words_of, text_lines}
 
 -- ---- turns keep the number of words

@@ -1,5 +1,5 @@
 -- How a job has ended: what it printed, and which file it wrote.
-use Rattle.std.specs.Prelude.{◌≡◌, ◌⊎◌, ⊤, List}
+use Rattle.std.specs.Prelude.{◌≡◌, ◌⊎◌, ⊤}
 use Rattle.std.specs.declared.option.Option.{Option}
 use Rattle.std.specs.declared.option.Option.TheVariants.{Some, None}
 use Rattle.xmt_host.specs.Told.{FileMap}
@@ -11,7 +11,6 @@ use Rattle.xmt_isa.specs.declared.run.Choice.TheVariants as choice
 use Rattle.run_options.specs.declared.options.SimOptions.{SimOptions}
 use Rattle.xmt_cli.specs.Given.{Text}
 use Rattle.xmt_cli.specs.JobOf.{Task, compile, simulate, run}
-use Rattle.xmt_jobs.specs.declared.outcome.BytesFault.{BytesFault}
 use Rattle.xmt_jobs.specs.declared.outcome.Outcome.{Outcome}
 use Rattle.xmt_jobs.specs.declared.outcome.Outcome.TheVariants.{Done, SourceRefused, ImageRefused, MapRefused, Trap, Spent, Fault, NoMemory}
 use Rattle.xmt_host.specs.Told.{Told}

@@ -1,5 +1,5 @@
 -- What is wrong with the bytes of a file that isn't a source.
-use Rattle.std.specs.Prelude.{◌≡◌, ⊤, ◌⊎◌, ℕ, ◌<◌, ◌≤◌, ◌^◌, List, length, Err}
+use Rattle.std.specs.Prelude.{◌≡◌, ⊤, ℕ, ◌≤◌, List, length, Err}
 use Rattle.std.specs.declared.option.Option.{Option}
 use Rattle.std.specs.declared.option.Option.TheVariants.{Some, None}
 use Rattle.xmt_base.specs.declared.values.Symbol.{Symbol}

@@ -2,14 +2,12 @@
 use Rattle.std.specs.Prelude.{◌≡◌, ◌⊎◌, ⊤, ℕ, List}
 use Rattle.std.specs.declared.option.Option.{Option}
 use Rattle.xmt_host.specs.Told.{FileMap}
-use Rattle.xmt_base.specs.declared.values.Symbol.{Symbol}
 use Rattle.xmt_isa.specs.declared.image.Image.{Image}
 use Rattle.xmt_isa.specs.declared.run.Choice.{Choice}
 use Rattle.xmt_isa.specs.declared.run.Choice.TheVariants as choice
 use Rattle.run_options.specs.declared.options.SimOptions.{SimOptions}
 use Rattle.xmt_isa.specs.Machine.{Machine}
-use Rattle.machine_core.specs.Runs.{PrintsPicked}
-use Rattle.xmtsim_run.specs.Runs.{picked_run}
+use Rattle.xmtsim_run.specs.Runs.{PrintsUnder}
 use Rattle.xmt_cli.specs.Given.{Text}
 use Rattle.xmt_jobs.specs.declared.outcome.Outcome.{Outcome}
 use Rattle.xmt_jobs.specs.declared.outcome.Outcome.TheVariants.{Done, ImageRefused, MapRefused, Trap, Spent, Fault, NoMemory}
@@ -26,8 +24,8 @@ LoadsNot files file Fault = ⊤
 LoadsNot files file NoMemory = ⊤
 LoadsNot files file outcome = ⊥
 
--- The file holds the bytes of a valid image, which has run as the seed picks, from the words that the map makes of the image's opening ones, to such an
--- end.
+-- The file holds the bytes of a valid image, which has run, as the seed picks where there is one, from the words that the map makes of the image's
+-- opening ones to such an end.
 pub record HasSimulated (file : Text) (options : SimOptions) (map : Option Text) (end : Choice) (before now : Told) : Type 0 where
   pub image : Image
   pub holds : HoldsImage before.files file image
@@ -42,7 +40,7 @@ pub record HasSimulatedPart (file : Text) (options : SimOptions) (map : Option T
   pub holds : HoldsImage before.files file image
   pub memory : List ℕ
   pub opens : OpensAs before.files map image.symbols image.words memory
-  pub printed : PrintsPicked image options.budget (picked_run image memory options) before.out now.out
+  pub printed : PrintsUnder image memory options before.out now.out
 
 -- ---- a loaded image
 
@@ -57,7 +55,7 @@ module _ (image : Image) (options : SimOptions) (map dump : Option Text) (before
   pub record RunsPartly : Type 0 where
     pub memory : List ℕ
     pub opens : OpensAs before.files map image.symbols image.words memory
-    pub printed : PrintsPicked image options.budget (picked_run image memory options) before.out now.out
+    pub printed : PrintsUnder image memory options before.out now.out
 
   abbrev pub IsCutOff : Type 0
   IsCutOff =

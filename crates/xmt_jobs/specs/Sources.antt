@@ -16,10 +16,9 @@ use Rattle.xmt_isa.specs.declared.image.Image.{Image}
 use Rattle.xmt_isa.specs.declared.run.Choice.{Choice}
 use Rattle.run_options.specs.declared.options.SimOptions.{SimOptions}
 use Rattle.xmt_isa.specs.Machine.{Machine}
-use Rattle.xmt_isa.specs.Picked.{picked}
 use Rattle.image_loader.specs.Layout.{Bytes}
 use Rattle.machine_turns.specs.Runs.{data_words}
-use Rattle.xmtsim_run.specs.Runs.{picked_run}
+use Rattle.xmtsim_run.specs.Runs.{Reaches}
 use Rattle.xmt_compile.specs.Implements.{Implements}
 use Rattle.xmt_compile.specs.Ended.{HasDone, HasPrinted}
 use Rattle.xmt_cli.specs.Given.{Text}
@@ -94,8 +93,8 @@ pub record HasCompiledPart (file out : Text) (before now : Told) : Type 0 where
 
 -- ---- running
 
--- The file holds the source of a program, of which an image implements it. The image has run as the seed picks, from the words that the map makes of
--- the program's opening ones. By some legal schedule the program prints just what the run has printed, comes to such an end and, where it has ended,
+-- The file holds the source of a program, which an image implements. The image has run, as the seed picks where there is one, from the words that the
+-- map makes of the program's opening ones. By some legal schedule the program prints just what the run has printed, comes to such an end and, where it has ended,
 -- leaves the same words in its globals.
 pub record HasRun (file : Text) (options : SimOptions) (map : Option Text) (end : Choice) (before now : Told) : Type 0 where
   pub program : Program
@@ -108,7 +107,7 @@ pub record HasRun (file : Text) (options : SimOptions) (map : Option Text) (end 
   pub run : RunsTo image memory options end machine before now
   pub does : HasDone program memory options.units options.budget end machine.out (data_words image machine.words)
 
--- Such a run has come so far that by some legal schedule the program prints this, of which a prefix was written.
+-- Such a run has come to some machine, and by some legal schedule the program prints what it has printed, of which a prefix was written.
 pub record HasRunPart (file : Text) (options : SimOptions) (map : Option Text) (before now : Told) : Type 0 where
   pub program : Program
   pub holds : HoldsProgram before.files file program
@@ -116,8 +115,7 @@ pub record HasRunPart (file : Text) (options : SimOptions) (map : Option Text) (
   pub implements : Implements program image
   pub memory : List ℕ
   pub opens : OpensAs before.files map (symbols_from 0 program.globals) (opening_words program.globals) memory
-  pub choices : ℕ
-  pub output : List ℕ
-  pub is_picked : (picked image options.budget (picked_run image memory options) choices).machine.out ≡ output
-  pub does : HasPrinted program memory options.units output
-  pub printed : WritesPart output before.out now.out
+  pub machine : Machine
+  pub reached : Reaches image memory options machine
+  pub does : HasPrinted program memory options.units machine.out
+  pub printed : WritesPart machine.out before.out now.out

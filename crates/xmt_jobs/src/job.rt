@@ -13,7 +13,9 @@ use crate::outcome::Outcome;
 use crate::source::compile_file;
 use image_loader::{admit, encode};
 use run_options::SimOptions;
+use spawn_join::Gate;
 use std::alloc::Global;
+use std::thread::Threads;
 use xmt_cli::Job;
 use xmt_host::{Host, HostFault};
 use xmt_isa::Image;
@@ -49,13 +51,15 @@ fn compile_into<H: Host>(alloc: Global, file: &str, out: &str, host: &mut H) -> 
 }
 
 // Runs the image in a file.
-fn simulate_file<H: Host>(
+fn simulate_file<R: Threads + Sync, H: Host, G: Gate + Sync>(
+    rt: &R,
     alloc: Global,
     file: &str,
     options: &SimOptions,
     map: &Option<String>,
     dump: &Option<String>,
     host: &mut H,
+    gate: &G,
 ) -> Outcome
     requires range { AreInRange options.now }
     ensures ended { HasEndedSimulating file.now options.now (option_map string_bytes map.now) (option_map string_bytes dump.now) (H.told host.old) (H.told host.new) result }
@@ -65,18 +69,20 @@ fn simulate_file<H: Host>(
 {
     match load_file(alloc, file, host) {
         Err(outcome) => outcome,
-        Ok(image) => run_loaded(alloc, &image, options, map, dump, host),
+        Ok(image) => run_loaded(rt, alloc, &image, options, map, dump, host, gate),
     }
 }
 
 // Compiles the source in a file, and runs the image.
-fn run_file<H: Host>(
+fn run_file<R: Threads + Sync, H: Host, G: Gate + Sync>(
+    rt: &R,
     alloc: Global,
     file: &str,
     options: &SimOptions,
     map: &Option<String>,
     dump: &Option<String>,
     host: &mut H,
+    gate: &G,
 ) -> Outcome
     requires range { AreInRange options.now }
     ensures ended { HasEndedRunning file.now options.now (option_map string_bytes map.now) (option_map string_bytes dump.now) (H.told host.old) (H.told host.new) result }
@@ -89,15 +95,22 @@ fn run_file<H: Host>(
         Ok(image) => match admit(alloc, image) {
             // A valid image is refused only for want of memory.
             Err(_) => Outcome::NoMemory,
-            Ok(image) => run_loaded(alloc, &image, options, map, dump, host),
+            Ok(image) => run_loaded(rt, alloc, &image, options, map, dump, host, gate),
         },
     }
 }
 
 /// Does a job over a host. Compiling puts the image into a file, once the source is known to be
-/// accepted. A run prints at its steps, and puts its dump, where one is named, when it is done. The
-/// files are read in order: the source or the image, then the map.
-pub fn do_job<H: Host>(alloc: Global, job: &Job, host: &mut H) -> Outcome
+/// accepted. A run prints at its steps, and puts its dump, where one is named, when it is done; without a
+/// seed its control units are host threads, which pass the gate before each of their draws. The files are
+/// read in order: the source or the image, then the map.
+pub fn do_job<R: Threads + Sync, H: Host, G: Gate + Sync>(
+    rt: &R,
+    alloc: Global,
+    job: &Job,
+    host: &mut H,
+    gate: &G,
+) -> Outcome
     requires range { HasRange job.now }
     ensures ended { HasEnded (seen_job job.now) (H.told host.old) (H.told host.new) result }
     ensures fault { result ≡ Outcome.Fault → Rose (H.told host.old).faults (H.told host.new).faults }
@@ -111,12 +124,12 @@ pub fn do_job<H: Host>(alloc: Global, job: &Job, host: &mut H) -> Outcome
             options,
             map,
             dump,
-        } => simulate_file(alloc, file.as_str(), options, map, dump, host),
+        } => simulate_file(rt, alloc, file.as_str(), options, map, dump, host, gate),
         Job::Run {
             file,
             options,
             map,
             dump,
-        } => run_file(alloc, file.as_str(), options, map, dump, host),
+        } => run_file(rt, alloc, file.as_str(), options, map, dump, host, gate),
     }
 }

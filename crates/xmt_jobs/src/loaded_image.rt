@@ -15,7 +15,9 @@ use crate::map::{BYTE_LIMIT, opening_memory};
 use crate::outcome::{BytesFault, Outcome};
 use image_loader::{LoadRefusal, Loaded, load};
 use run_options::{SimEnd, SimOptions};
+use spawn_join::Gate;
 use std::alloc::Global;
+use std::thread::Threads;
 use xmt_base::Memory;
 use xmt_host::{Host, HostFault, TakeFault, take_file};
 use xmt_isa::Image;
@@ -74,13 +76,15 @@ fn dump_words<H: Host>(
 
 /// Runs a loaded image from its opening words or from those that a map makes of them, and puts the
 /// dump when the run is done.
-pub(crate) fn run_loaded<H: Host>(
+pub(crate) fn run_loaded<R: Threads + Sync, H: Host, G: Gate + Sync>(
+    rt: &R,
     alloc: Global,
     image: &Loaded,
     options: &SimOptions,
     map: &Option<String>,
     dump: &Option<String>,
     host: &mut H,
+    gate: &G,
 ) -> Outcome
     requires range { AreInRange options.now }
     ensures ended { HasRunLoaded image.now options.now (option_map string_bytes map.now) (option_map string_bytes dump.now) (H.told host.old) (H.told host.new) result }
@@ -90,7 +94,7 @@ pub(crate) fn run_loaded<H: Host>(
 {
     match opening_memory(alloc, image, map, host) {
         Err(outcome) => outcome,
-        Ok(memory) => match simulate(alloc, image, memory, options, host) {
+        Ok(memory) => match simulate(rt, alloc, image, memory, options, host, gate) {
             SimEnd::Done(memory) => {
                 let _registers = registers(image.image());
                 dump_words(alloc, image, &memory, dump, host)

@@ -71,9 +71,8 @@ module _ (before mid : Told) (err : Option (List ℕ)) (faults taken : ℕ) (ste
       implements = h.implements;
       memory = h.memory;
       opens = h.opens;
-      choices = h.choices;
-      output = h.output;
-      is_picked = h.is_picked;
+      machine = h.machine;
+      reached = h.reached;
       does = h.does;
       printed = h.printed;
     }

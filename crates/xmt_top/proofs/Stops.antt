@@ -1,4 +1,4 @@
--- Where a picked run stops, a unit stands at a trap or has spent the budget.
+-- Where a run stops, a unit stands at a trap or has spent the budget.
 use Rattle.std.proofs.Common.{◌≡◌, ◌∙◌, refl, sym, ap, subst, ℕ, suc, ◌==◌, ◌&&◌, cond, Bool, true, false, nat_lt, List, [], ◌∷◌, find, count_by, Option, Some, None, slice_get, arith}
 use Rattle.std.specs.Prelude.{if◌then◌else◌, IsSomeAnd, ⊤}
 use Rattle.xmt_base.specs.declared.values.Trap.{Trap}

@@ -11,8 +11,7 @@ use Rattle.xmt_isa.specs.declared.run.Choice.TheVariants as choice
 use Rattle.run_options.specs.declared.options.SimOptions.{SimOptions}
 use Rattle.xmt_isa.specs.Machine.{Machine, after}
 use Rattle.xmt_isa.specs.Opening.{opening}
-use Rattle.xmt_isa.specs.Picked.{picked}
-use Rattle.xmtsim_run.specs.Runs.{picked_run}
+use Rattle.xmt_isa.specs.Picked.{PickedRun}
 use Rattle.xmt_cli.specs.Given.{Text}
 use Rattle.xmt_cli.specs.JobOf.{Task, compile, simulate, run}
 use Rattle.xmt_jobs.specs.declared.outcome.BytesFault.{BytesFault}
@@ -74,20 +73,22 @@ module _ (before now : Told) where
   -- ---- a run that must end
 
   module _ (image : Image) (memory : List ℕ) (options : SimOptions) (machine : Machine) (ends : ImageEndsWithin options image memory) where
+    -- this machine, with a generator that isn't looked at
+    abbrev run_there : PickedRun
+    run_there = record { machine = machine; state = 0 }
+
     image_traps_not : (trap : spec.Trap) → RunsTo image memory options (choice.Trap trap) machine before now → ⊥
     image_traps_not trap h =
-        let begin = picked_run image memory options in
-        let stop : Traps image machine = subst (Traps image) h.ended.reaches (trap_stops image options.budget (picked image options.budget begin h.ended.choices) trap h.ended.ends) in
-        let there : Traps image (after image (opening image memory options.units) h.ended.legal.0) = subst (Traps image) (sym h.ended.legal.2) stop in
-        ends.never_traps h.ended.legal.0 there.place there.kind h.ended.legal.1 there.active there.stands
+        let legal = h.ended.reached.legal in
+        let there : Traps image (after image (opening image memory options.units) legal.0) = subst (Traps image) (sym legal.2) (trap_stops image options.budget run_there trap (h.ended.ends 0)) in
+        ends.never_traps legal.0 there.place there.kind legal.1 there.active there.stands
 
     image_spends_not : (unit steps : ℕ) → RunsTo image memory options (choice.Spent unit steps) machine before now → ⊥
     image_spends_not unit steps h =
-        let begin = picked_run image memory options in
-        let stop : Spends options.budget machine =
-        subst (Spends options.budget) h.ended.reaches (spent_stops image options.budget (picked image options.budget begin h.ended.choices) unit steps h.ended.ends) in
-        let there : Spends options.budget (after image (opening image memory options.units) h.ended.legal.0) = subst (Spends options.budget) (sym h.ended.legal.2) stop in
-        let less = ends.never_spends h.ended.legal.0 there.place there.unit h.ended.legal.1 there.at in
+        let legal = h.ended.reached.legal in
+        let there : Spends options.budget (after image (opening image memory options.units) legal.0) =
+        subst (Spends options.budget) (sym legal.2) (spent_stops image options.budget run_there unit steps (h.ended.ends 0)) in
+        let less = ends.never_spends legal.0 there.place there.unit legal.1 there.at in
         omega (arith, less, there.steps)
 
   traps_not : (task : Task) (trap : spec.Trap) → MustEnd before.files task → HasEnded task before now (Trap trap) → ⊥

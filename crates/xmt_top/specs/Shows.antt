@@ -1,6 +1,5 @@
 -- What a call shows: how the job of its words has ended, and the line on the error stream.
 use Rattle.std.specs.Prelude.{◌≡◌, ◌⊎◌, ℕ, ◌≤◌, List, [], unwrap_or, IfSome}
-use Rattle.std.specs.declared.option.Option.{Option}
 use Rattle.xmt_base.specs.declared.values.Place.{Place}
 use Rattle.xmt_base.specs.declared.values.Trap as spec
 use Rattle.xmt_host.specs.Host.{Rose}

@@ -12,16 +12,25 @@ ghost use Rattle.xmt_top.specs.Completeness.{MustRefuseSource, MustRefuseBytes, 
 
 use crate::messages::{NO_JOB, NO_MEMORY};
 use crate::report::{Status, complain, report};
+use spawn_join::Gate;
 use std::alloc::Global;
+use std::thread::Threads;
 use xmt_cli::{Job, WordsRefusal, read_words};
 use xmt_host::Host;
 use xmt_jobs::do_job;
 
 /// Does what the words of a command line say, over a host: `cc FILE --out FILE` compiles the source
 /// in a file, `sim FILE` runs an image, and `run FILE` does both. A run is that of a master and
-/// control units, as many as the options say, in the order that the seed picks. With any code but 0
-/// one line goes to the error stream.
-pub fn xmt<H: Host>(alloc: Global, words: &[String], host: &mut H) -> Status
+/// control units, as many as the options say. With a seed it picks each turn; without one each control
+/// unit is a host thread, which passes the gate before each of its draws, and it isn't promised which
+/// legal schedule the run was. With any code but 0 one line goes to the error stream.
+pub fn xmt<R: Threads + Sync, H: Host, G: Gate + Sync>(
+    rt: &R,
+    alloc: Global,
+    words: &[String],
+    host: &mut H,
+    gate: &G,
+) -> Status
     // Which codes there are, and when. Want of memory, code 7, is free.
     ensures codes { Contains (0 ∷ 1 ∷ 2 ∷ 3 ∷ 4 ∷ 5 ∷ 6 ∷ 7 ∷ []) result.code }
     ensures no_job { result.code ≡ 2 → task_of (map string_bytes words.now) ≡ None }
@@ -54,18 +63,24 @@ pub fn xmt<H: Host>(alloc: Global, words: &[String], host: &mut H) -> Status
     match read_words(alloc, words) {
         Err(WordsRefusal::NotAJob) => complain(2, NO_JOB, host),
         Err(WordsRefusal::NoMemory) => complain(7, NO_MEMORY, host),
-        Ok(job) => do_and_report(alloc, &job, host),
+        Ok(job) => do_and_report(rt, alloc, &job, host, gate),
     }
 }
 
 // Does a job, and reports how it has ended.
-fn do_and_report<H: Host>(alloc: Global, job: &Job, host: &mut H) -> Status
+fn do_and_report<R: Threads + Sync, H: Host, G: Gate + Sync>(
+    rt: &R,
+    alloc: Global,
+    job: &Job,
+    host: &mut H,
+    gate: &G,
+) -> Status
     requires range { HasRange job.now }
     ensures reported { Reported (seen_job job.now) (H.told host.old) (H.told host.new) result.code }
     ensures no_fault { MeetsNoFault (H.told host.old) (H.told host.new) (λ files. HasFiles files (seen_job job.now)) }
     ensures later { (H.told host.old).faults ≤ (H.told host.new).faults }
     ensures steady { (H.told host.new).steady ≡ (H.told host.old).steady }
 {
-    let outcome = do_job(alloc, job, host);
+    let outcome = do_job(rt, alloc, job, host, gate);
     report(alloc, job, outcome, host)
 }

@@ -9,7 +9,7 @@ pub dump_words-requires : goal.dump_words-requires
 dump_words-requires g c =
     let e = c.in-Done.ensures.end in
     let eight = subst (λ (image : Image). length image.ps ≡ 8) c.image.ensures.same c.registers-registers.ensures.eight in
-    record { size = ap length e.3 ∙ data_size c.args.image.now c.in-Ok.memory.words c.args.options.now.units e.0 eight c.in-Ok.ensures.size e.1.legal }
+    record { size = ap length e.3 ∙ data_size c.args.image.now c.in-Ok.memory.words c.args.options.now.units e.0 eight c.in-Ok.ensures.size e.1.reached.legal }
 
 pub returns-in-Done-clause-ended : goal.returns-in-Done-clause-ended
 returns-in-Done-clause-ended g c =

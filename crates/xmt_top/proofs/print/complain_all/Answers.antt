@@ -1,4 +1,4 @@
-use Rattle.std.proofs.Common.{◌∙◌, arith}
+use Rattle.std.proofs.Common.{arith}
 use Rattle.std.proofs.lemmas.Grind.{common_steps}
 use Rattle.xmt_host.proofs.Later.{then_complains}
 use Rattle.xmt_top.proofs.Written.{writes_more, slice_rest}

@@ -1,4 +1,4 @@
-use Rattle.std.proofs.Common.{◌≡◌, ◌-◌, ◌≤◌, length, take}
+use Rattle.std.proofs.Common.{◌-◌, ◌≤◌, length, take}
 use Rattle.xmt_host.specs.Told.{OnlyComplains}
 use Rattle.xmt_jobs.specs.Written.{Writes}
 use Rattle.xmt_top.proofs.print.complain_all.Given as goal
