@@ -1,9 +1,9 @@
 //! Runs the programs of its tables over a host in memory, and prints a line for each row.
 //!
-//! A row has a `source` or the bytes of an `image`, and what its run gives: the exit `code`, what it prints (`out`) and the line on the error stream
-//! (`err`), where 0 and nothing are left out. It runs under each of its `words`, or else by default, on one unit, and
-//! on many in an order that a seed picks. Without a seed each unit is a host thread, and no row's answer hangs on which
-//! schedule that is. `failing` is the number of the print that fails.
+//! A row has a `source` or the bytes of an `image`, and what its run gives: the exit `code`, what it prints (`out`) and
+//! the line on the error stream (`err`), where 0 and nothing are left out. It runs under each of its `words`, or else by
+//! default, on one unit, and on many in an order that a seed picks. Without a seed each unit is a host thread, and no
+//! row's answer hangs on which schedule that is. `failing` is the number of the print that fails.
 #![tactic(auto)]
 
 mod runs;
