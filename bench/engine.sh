@@ -26,7 +26,7 @@ time_of() {
 
 # the most memory that a run of an image without an end has held after so many seconds, in KiB
 memory_of() {
-  ./xmt sim "$2" --units "$3" --budget 1000000000000 &
+  ./xmt sim "$2" --units "$3" --seed 0 --budget 1000000000000 &
   local run=$!
   sleep "$1"
   sed -n 's/^VmHWM:[^0-9]*\([0-9]*\) kB/\1/p' "/proc/$run/status"
@@ -45,11 +45,11 @@ rate() {
   awk -v name="$1" -v steps="$2" -v took="$3" \
     'BEGIN { printf "%-28s %12d %8.2f %16.0f\n", name, steps, took / 1e9, steps / took * 1e9 }'
 }
-rate 'the master alone' 40000000 "$(time_of ./xmt sim "$made/serial.img" --units 1 --budget 40000000)"
-rate 'the master, 64 idle units' 40000000 "$(time_of ./xmt sim "$made/serial.img" --units 64 --budget 40000000)"
+rate 'the master, 1 idle unit' 40000000 "$(time_of ./xmt sim "$made/serial.img" --units 1 --seed 0 --budget 40000000)"
+rate 'the master, 64 idle units' 40000000 "$(time_of ./xmt sim "$made/serial.img" --units 64 --seed 0 --budget 40000000)"
 for units in 1 4 16 64; do
   steps=$((16000000 / units))
-  rate "$units units" "$((steps * units))" "$(time_of ./xmt sim "$made/spawn.img" --units "$units" --budget "$steps")"
+  rate "$units units" "$((steps * units))" "$(time_of ./xmt sim "$made/spawn.img" --units "$units" --seed 0 --budget "$steps")"
 done
 
 # ---- beside interpreters
@@ -72,7 +72,7 @@ local s = 0
 for i = 0, $turns - 1 do s = (s * 3 + i) & 0xffffffff end
 print(s >> 31 == 1 and s - 4294967296 or s)
 P
-ours=$(time_of ./xmt sim "$made/loop.img" --budget 1000000000)
+ours=$(time_of ./xmt sim "$made/loop.img" --seed 0 --budget 1000000000)
 answer=$(cat "$made/out")
 printf '\n%-28s %8s %8s\n' 'a loop of 2,000,000 turns' seconds ratio
 beside() {

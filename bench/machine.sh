@@ -22,7 +22,7 @@ time_of() {
   local best=0 begin took
   for _ in $(seq "$rounds"); do
     begin=$(date +%s%N)
-    ./xmt run "$1" --units "$2" --budget 1000000000
+    ./xmt run "$1" --units "$2" --seed 0 --budget 1000000000
     took=$(($(date +%s%N) - begin))
     if [ "$best" -eq 0 ] || [ "$took" -lt "$best" ]; then best=$took; fi
   done

@@ -48,9 +48,9 @@ for run in "loop 1" "array 1" "threads 1" "threads 4" "threads 64"; do
   read -r name units <<<"$run"
   image=$room/$name.img
   ./xmt cc "$room/$name.xmtc" --out "$image" || exit 1
-  cmp -s <(./xmt sim "$image" --units "$units" --budget 1000000000) <("$room/machine" "$image" "$units" 1000000000) || { echo "$name with $units units: the two machines differ" >&2; exit 1; }
+  cmp -s <(./xmt sim "$image" --units "$units" --seed 0 --budget 1000000000) <("$room/machine" "$image" "$units" 1000000000) || { echo "$name with $units units: the two machines differ" >&2; exit 1; }
   turns=$(TURNS=1 "$room/machine" "$image" "$units" 1000000000 2>&1 >/dev/null)
   plain=$(best "$room/machine" "$image" "$units" 1000000000)
-  ours=$(best ./xmt sim "$image" --units "$units" --budget 1000000000)
+  ours=$(best ./xmt sim "$image" --units "$units" --seed 0 --budget 1000000000)
   echo "| $name | $units | $turns | $plain | $ours | $(echo "scale=2; $plain / $ours" | bc) |"
 done
