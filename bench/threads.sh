@@ -5,6 +5,7 @@
 # units, under a seed with one unit, and the same loop in C on threads of OpenMP, where it goes round often enough to be timed. The second
 # one has sections that do nothing, one behind another, beside OpenMP's team of threads, which stays, and beside threads in C that are
 # made for each section, as xmt makes them.
+# The third one has sections of 8 threads with a few turns of that loop, one behind another: from how many steps a section several units pay.
 # XMT names the program; usually it is the script ./xmt, which needs the toolchain's command rt where the program isn't built yet.
 set -u
 cd "$(dirname "$0")/.." || exit 1
@@ -20,6 +21,11 @@ gcc -O2 -o "$room/machine" bench/machine.c || exit 1
 # The section, whose threads go round the loop so many times.
 section_of() {
   echo "int A[64]; main() { spawn(0, 63) { int i; int s = \$; for (i = 0; i < $1; i++) s = s * 31 + (i ^ 7); A[\$] = s; } printf(\"%d %d\\n\", A[0], A[63]); }"
+}
+
+# So many sections of 8 threads, whose threads go round the loop so many times.
+short_of() {
+  echo "int A[8]; main() { int k; for (k = 0; k < $1; k++) spawn(0, 7) { int i; int s = \$; for (i = 0; i < $2; i++) s = s * 31 + (i ^ 7); A[\$] = s; } }"
 }
 
 # So many sections that do nothing.
@@ -90,4 +96,16 @@ for units in 1 4 64; do
     took+=("$(echo "scale=2; ($some - $none) * 1000000 / $sections" | bc)")
   done
   printf '| %s | %s | %s | %s | %s | %s |\n' "$units" "$sections" "${took[@]}" "$("$room/threads" team "$units" "$sections")" "$("$room/threads" new "$units" "$sections")"
+done
+
+echo
+echo '| Steps a section | 1 unit, microseconds a section | 2 units | 4 units |'
+echo '|---|---|---|---|'
+sections=2000
+for turns in 1 10 20 30 40 80; do
+  short_of 1 "$turns" | image one || exit 1
+  short_of "$sections" "$turns" | image short || exit 1
+  printf '| %s' "$(TURNS=1 "$room/machine" "$room/one.img" 1 "$budget" 2>&1 >/dev/null)"
+  for units in 1 2 4; do printf ' | %s' "$(echo "scale=2; $(run short --units "$units") * 1000000 / $sections" | bc)"; done
+  echo ' |'
 done
