@@ -8,7 +8,7 @@ pub struct SimOptions {
     pub units: u32,
     /// How many steps each unit may do, from 1 to 2^40.
     pub budget: u64,
-    /// What the generator of a picked run begins with.
+    /// What the generator begins with that picks each turn. Without one each control unit of a section is a host thread.
     pub seed: Option<u64>,
 }
 

@@ -18,6 +18,7 @@ fn new_worker(alloc: Global, number: u32) -> Result<Worker, AllocError>
     Ok(Worker {
         unit: Unit::new(alloc, number)?,
         pass: None,
+        gap: [0; 8],
     })
 }
 

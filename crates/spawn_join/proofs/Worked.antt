@@ -28,7 +28,7 @@ own_nothing image start u draws = record {
 
 pub has_run : (image : Image) (start : Start) (budget : ℕ) (words : WordsId) (seen : History) (w : Worker) (given enrolled after : Token) (number : ℕ) (v : Unit)
     → MayEnrol words seen (Some given) → IsDue image start budget w.unit → Enrols given.known enrolled.known number → IsPassOf words after → Went image start budget enrolled.known after.known w.unit v → HasEnded image start budget v
-    → HasRun image start budget words seen w.unit (record { unit = v; pass = Some after })
+    → HasRun image start budget words seen w.unit (record { unit = v; pass = Some after; gap = w.gap })
 has_run image start budget words seen w given enrolled after number v may due enrols of went ended =
     let seen_is : given.known.seen ≡ seen = ap (λ (k : Known). k.seen) may.1 in
     let ready : given.known ≡ unnumbered given.known.seen = may.1 ∙ ap unnumbered (sym seen_is) in

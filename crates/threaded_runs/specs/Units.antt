@@ -1,4 +1,5 @@
 -- Control units as workers, and back in their seats.
+use Rattle.std.specs.Prelude.{replicate}
 use Rattle.std.specs.declared.option.Option.TheVariants.{None}
 use Rattle.xmt_isa.specs.declared.unit.Unit.{Unit}
 use Rattle.xmt_isa.specs.declared.unit.UnitState.{UnitState}
@@ -16,7 +17,7 @@ due_by Runs u = u
 due_by Halted u = u
 
 abbrev pub due_worker : Seat → Worker
-due_worker s = record { unit = due_by s.unit.state s.unit; pass = None }
+due_worker s = record { unit = due_by s.unit.state s.unit; pass = None; gap = replicate 8 0 }
 
 abbrev pub seat_again : Worker → Seat
 seat_again w = seat_of w.unit

@@ -17,7 +17,11 @@ fn due_worker(seat: Seat) -> Worker
         UnitState::Stopped => unit.ready(),
         UnitState::Draws | UnitState::Runs | UnitState::Halted => {}
     }
-    Worker { unit, pass: None }
+    Worker {
+        unit,
+        pass: None,
+        gap: [0; 8],
+    }
 }
 
 /// Takes the control units from behind the master; idle ones are due to draw then.

@@ -1,4 +1,4 @@
--- What a source has done where a picked run of its image ends.
+-- What a source has done where a run of its image ends.
 use Rattle.std.specs.Prelude.{◌≡◌, ℕ, ◌+◌, ◌*◌, ◌≤◌, IsTrue, List, length}
 use Rattle.std.specs.List.{Contains}
 use Rattle.source_meaning.specs.declared.tree.Program.{Program}
